@@ -1,0 +1,257 @@
+-- The verdict of none and the facts of `Accepted` are the same statement.
+-- Assumes nothing.
+use Prim.Native.Nat.{ℕ, zero, suc, _+_, _-_, _*_, _<_, _≤_}
+use mathlib.Core.Path.{_≡_, refl, sym, _∙_, ap, subst}
+use mathlib.Core.Bool.{Bool, true, false, not, _&&_, _||_, true≢false, false≢true}
+use mathlib.Core.List.{List}
+use native.Mathlib.Omega.{arith}
+use native.Mathlib.Decide.{decLt}
+use lib.Dec.{eqb, ltb}
+use lib.ListN.{length, length-drop}
+use borrow.Author.Tests.{ltb-true, ltb-false, eqb-true, eqb-false, not-true, not-false, lt-ltb, le-ltb, ne-eqb, eq-eqb}
+use Rattle.tables.specs.Key.{Key, sameKey, belowKey}
+use Rattle.tables.specs.Marks.{marksFit, within}
+use Rattle.tables.proofs.Keys.{below-of, below-apart, below-asym, ne-same}
+use Rattle.sheet.specs.declared.Refusal.{Refusal}
+use Rattle.sheet.specs.declared.Header.{Header}
+use Rattle.sheet.specs.declared.Node.{Node}
+use Rattle.sheet.specs.declared.Edge.{Edge}
+use Rattle.sheet.specs.Refusals.{_when_otherwise_, _orElse_, none, refuse, firstRow}
+use Rattle.sheet.specs.Rows.{headerOf, nodeAt, edgeAt, edgeTable, nodeKey, edgeKey, nodeKeyAt, edgeKeyAt}
+use Rattle.sheet.specs.Verdict.{sheetFault, headerFault, nodeFault, nodeOrder, nodeFaultAt, edgeShape, edgeFit, edgeOrder, edgeRest, edgeFaultAt, rowsVerdict, verdict}
+use Rattle.sheet.specs.Accepted.{HeaderFits, EdgeRoom, MarksFit, NodeFits, EdgeShaped, EdgeFits, Rising, NodesFormed, EdgesFormed, WellFormed, Accepted}
+use Rattle.sheet.proofs.Refusing.{line-good, line-none, else-good, else-none, refuse-good, refuse-none, then-good, then-none, rows-good, rows-none, not-eqb-false}
+
+-- ---- tests and facts
+
+or-false : (a b : Bool) → (a || b) ≡ false → (a ≡ false) × (b ≡ false)
+or-false true b e = (e, absurd (true≢false e))
+or-false false b e = (refl, e)
+
+false-or : {a b : Bool} → a ≡ false → b ≡ false → (a || b) ≡ false
+false-or p q = rw (p, q)
+
+and-true : (a b : Bool) → (a && b) ≡ true → (a ≡ true) × (b ≡ true)
+and-true true b e = (refl, e)
+and-true false b e = (e, absurd (false≢true e))
+
+true-and : {a b : Bool} → a ≡ true → b ≡ true → (a && b) ≡ true
+true-and p q = rw (p, q)
+
+not-so : {a : Bool} → a ≡ true → not a ≡ false
+not-so e = ap not e
+
+marks-good : (offices marks : ℕ) → marksFit offices marks ≡ true → MarksFit offices marks
+marks-good offices marks e =
+    let a = and-true _ _ e in
+    record { some = ltb-true _ _ (a .0); high = ltb-true _ _ (a .1) }
+
+good-marks : (offices marks : ℕ) → MarksFit offices marks → marksFit offices marks ≡ true
+good-marks offices marks m = true-and (lt-ltb _ _ (m .some)) (lt-ltb _ _ (m .high))
+
+-- ---- the header
+
+pub header-good : (h : Header) (words : ℕ) → headerFault h words ≡ 0 → HeaderFits h words
+unfolding headerFault
+header-good h words e2 =
+    let t2 = line-good _ _ _ tt e2 in
+    let t3 = line-good _ _ _ tt (t2 .1) in
+    let t4 = line-good _ _ _ tt (t3 .1) in
+    let t5 = line-good _ _ _ tt (t4 .1) in
+    let o3 = or-false _ _ (t3 .0) in
+    let o4 = or-false _ _ (t4 .0) in
+    let a5 = and-true _ _ (not-false _ (t5 .0)) in
+    let b5 = and-true _ _ (a5 .1) in
+    record {
+      form = eqb-true _ _ (not-false _ (t2 .0));
+      offices-low = ltb-false _ _ (o3 .0);
+      offices-high = ltb-false _ _ (o3 .1);
+      nodes = ltb-false _ _ (o4 .0);
+      edges = ltb-false _ _ (o4 .1);
+      nodes-from = eqb-true _ _ (a5 .0);
+      edges-from = eqb-true _ _ (b5 .0);
+      whole = eqb-true _ _ (b5 .1);
+    }
+
+good-header : (h : Header) (words : ℕ) → HeaderFits h words → headerFault h words ≡ 0
+unfolding headerFault
+good-header h words f =
+    line-none _ _ _ (not-eqb-false _ _ (f .form))
+    (line-none _ _ _ (false-or (le-ltb _ _ (f .offices-low)) (le-ltb _ _ (f .offices-high)))
+    (line-none _ _ _ (false-or (le-ltb _ _ (f .nodes)) (le-ltb _ _ (f .edges)))
+    (line-none _ _ _ (not-so (true-and (eq-eqb _ _ (f .nodes-from)) (true-and (eq-eqb _ _ (f .edges-from)) (eq-eqb _ _ (f .whole))))) refl)))
+
+pub sheet-good : (s : List ℕ) → sheetFault s ≡ 0 → (6 ≤ length s) × HeaderFits (headerOf s) (length s)
+unfolding sheetFault
+sheet-good s e1 =
+    let t1 = line-good _ _ _ tt e1 in
+    (ltb-false _ _ (t1 .0), header-good _ _ (t1 .1))
+
+good-sheet : (s : List ℕ) → HeaderFits (headerOf s) (length s) → sheetFault s ≡ 0
+unfolding sheetFault
+good-sheet s f = line-none _ _ _ (le-ltb (length s) 6 (omega (arith, f .whole))) (good-header _ _ f)
+
+-- ---- rows beside the row before: one law for nodes and edges
+
+-- equal to and lower than the row before do not hold of a row that has one ..
+after-good : (i : ℕ) (a b : Key) → (ltb 0 i && sameKey a b) ≡ false → (ltb 0 i && belowKey b a) ≡ false → 0 < i → belowKey a b ≡ true
+after-good i a b e d h = below-of a b (rw (lt-ltb 0 i h) at e) (rw (lt-ltb 0 i h) at d)
+
+-- .. and they do not where it is higher
+good-after : (i : ℕ) (a b : Key) → (0 < i → belowKey a b ≡ true) → ((ltb 0 i && sameKey a b) ≡ false) × ((ltb 0 i && belowKey b a) ≡ false)
+good-after i a b h = go (decLt 0 i)
+  where
+    go : Dec (0 < i) → ((ltb 0 i && sameKey a b) ≡ false) × ((ltb 0 i && belowKey b a) ≡ false)
+    go (yes l) = (rw (lt-ltb 0 i l) (ne-same a b (below-apart a b (h l))), rw (lt-ltb 0 i l) (below-asym a b (h l)))
+    go (no l) = let z = le-ltb 0 i (omega arith) in (rw z, rw z)
+
+-- from each row to the next, and from the row before to each
+onward : (f : ℕ → Key) (n : ℕ) → ((i : ℕ) → i < n → 0 < i → belowKey (f (i - 1)) (f i) ≡ true) → Rising f n
+onward f n h i l =
+    let e : i + 1 - 1 ≡ i = omega arith in
+    rw e at (h (i + 1) l (omega arith))
+
+back : (f : ℕ → Key) (n : ℕ) → Rising f n → (i : ℕ) → i < n → 0 < i → belowKey (f (i - 1)) (f i) ≡ true
+back f n up i l h = let e : i - 1 + 1 ≡ i = omega arith in rw e at (up (i - 1) (omega arith))
+
+-- ---- node rows
+
+node-good : (h : Header) (r : Node) → nodeFault h r ≡ 0 → NodeFits h r
+unfolding nodeFault
+node-good h r e6 =
+    let t6 = line-good _ _ _ tt e6 in
+    let t7 = line-good _ _ _ tt (t6 .1) in
+    let t8 = line-good _ _ _ tt (t7 .1) in
+    let o6 = or-false _ _ (t6 .0) in
+    let o7 = or-false _ _ (t7 .0) in
+    record {
+      class-low = ltb-false _ _ (o6 .0);
+      class-high = ltb-false _ _ (o6 .1);
+      number = eqb-false _ _ (o7 .0);
+      variant = λ (q : r .class ≡ 3 → ⊥). eqb-true _ _ (not-false _ (rw (ne-eqb _ _ q) at (o7 .1)));
+      marks = marks-good _ _ (not-false _ (t8 .0));
+    }
+
+good-node : (h : Header) (r : Node) → NodeFits h r → nodeFault h r ≡ 0
+unfolding nodeFault
+good-node h r f =
+    line-none _ _ _ (false-or (le-ltb _ _ (f .class-low)) (le-ltb _ _ (f .class-high)))
+    (line-none _ _ _ (false-or (ne-eqb _ _ (f .number)) (plain (eqb (r .class) 3) refl))
+    (line-none _ _ _ (not-so (good-marks _ _ (f .marks))) refl))
+  where
+    plain : (b : Bool) → eqb (r .class) 3 ≡ b → (not (eqb (r .class) 3) && not (eqb (r .variant) 0)) ≡ false
+    plain true e = rw e
+    plain false e = rw (e, eq-eqb _ _ (f .variant (eqb-false _ _ e)))
+
+node-row : (s : List ℕ) (h : Header) (i : ℕ) → nodeFaultAt s h i ≡ 0 → NodeFits h (nodeAt s i) × (0 < i → belowKey (nodeKeyAt s (i - 1)) (nodeKeyAt s i) ≡ true)
+unfolding nodeFaultAt nodeOrder
+node-row s h i e =
+    let g = else-good _ _ e in
+    let t9 = line-good _ _ _ tt (g .1) in
+    let t10 = line-good _ _ _ tt (t9 .1) in
+    (node-good _ _ (g .0), after-good i (nodeKeyAt s (i - 1)) (nodeKeyAt s i) (t9 .0) (t10 .0))
+
+row-node : (s : List ℕ) (h : Header) (i : ℕ) → NodeFits h (nodeAt s i) → (0 < i → belowKey (nodeKeyAt s (i - 1)) (nodeKeyAt s i) ≡ true) → nodeFaultAt s h i ≡ 0
+unfolding nodeFaultAt nodeOrder
+row-node s h i f up =
+    let a = good-after i (nodeKeyAt s (i - 1)) (nodeKeyAt s i) up in
+    else-none _ _ (good-node _ _ f) ∙ line-none _ _ _ (a .0) (line-none _ _ _ (a .1) refl)
+
+-- ---- edge rows
+
+pub shape-good : (h : Header) (e : Edge) → edgeShape h e ≡ 0 → EdgeShaped h e
+unfolding edgeShape
+shape-good h e e11 =
+    let t11 = line-good _ _ _ tt e11 in
+    let t12 = line-good _ _ _ tt (t11 .1) in
+    let o11 = or-false _ _ (t11 .0) in
+    let a12 = and-true _ _ (not-false _ (t12 .0)) in
+    record {
+      kind-low = ltb-false _ _ (o11 .0);
+      kind-high = ltb-false _ _ (o11 .1);
+      from = ltb-true _ _ (a12 .0);
+      to = ltb-true _ _ (a12 .1);
+    }
+
+good-shape : (h : Header) (e : Edge) → EdgeShaped h e → edgeShape h e ≡ 0
+unfolding edgeShape
+good-shape h e f =
+    line-none _ _ _ (false-or (le-ltb _ _ (f .kind-low)) (le-ltb _ _ (f .kind-high)))
+    (line-none _ _ _ (not-so (true-and (lt-ltb _ _ (f .from)) (lt-ltb _ _ (f .to)))) refl)
+
+fit-good : (h : Header) (e : Edge) (a b : Node) → edgeFit h e a b ≡ 0 → EdgeFits h e a b
+unfolding edgeFit
+fit-good h e a b e13 =
+    let t13 = line-good _ _ _ tt e13 in
+    let t14 = line-good _ _ _ tt (t13 .1) in
+    let t15 = line-good _ _ _ tt (t14 .1) in
+    let a15 = and-true _ _ (not-false _ (t15 .0)) in
+    let b15 = and-true _ _ (a15 .1) in
+    record {
+      ends = not-false _ (t13 .0);
+      apart = λ (q : e .kind ≡ 2) (g : e .from ≡ e .to). eqb-false _ _ (rw (eq-eqb _ _ q) at (t14 .0)) g;
+      marks = marks-good _ _ (a15 .0);
+      in-from = b15 .0;
+      in-to = b15 .1;
+    }
+
+good-fit : (h : Header) (e : Edge) (a b : Node) → EdgeFits h e a b → edgeFit h e a b ≡ 0
+unfolding edgeFit
+good-fit h e a b f =
+    line-none _ _ _ (not-so (f .ends))
+    (line-none _ _ _ (other (eqb (e .kind) 2) refl)
+    (line-none _ _ _ (not-so (true-and (good-marks _ _ (f .marks)) (true-and (f .in-from) (f .in-to)))) refl))
+  where
+    other : (b : Bool) → eqb (e .kind) 2 ≡ b → (eqb (e .kind) 2 && eqb (e .from) (e .to)) ≡ false
+    other true d = rw (d, ne-eqb _ _ (f .apart (eqb-true _ _ d)))
+    other false d = rw d
+
+edge-row : (s t : List ℕ) (h : Header) (j : ℕ) → edgeFaultAt s t h j ≡ 0
+    → EdgeShaped h (edgeAt t j) × EdgeFits h (edgeAt t j) (nodeAt s (edgeAt t j .from)) (nodeAt s (edgeAt t j .to)) × (0 < j → belowKey (edgeKeyAt t (j - 1)) (edgeKeyAt t j) ≡ true)
+unfolding edgeFaultAt edgeRest edgeOrder
+edge-row s t h j e =
+    let g = else-good _ _ e in
+    let f = else-good _ _ (g .1) in
+    let t16 = line-good _ _ _ tt (f .1) in
+    let t17 = line-good _ _ _ tt (t16 .1) in
+    (shape-good _ _ (g .0), fit-good _ _ _ _ (f .0), after-good j (edgeKeyAt t (j - 1)) (edgeKeyAt t j) (t16 .0) (t17 .0))
+
+row-edge : (s t : List ℕ) (h : Header) (j : ℕ) → EdgeShaped h (edgeAt t j) → EdgeFits h (edgeAt t j) (nodeAt s (edgeAt t j .from)) (nodeAt s (edgeAt t j .to))
+    → (0 < j → belowKey (edgeKeyAt t (j - 1)) (edgeKeyAt t j) ≡ true) → edgeFaultAt s t h j ≡ 0
+unfolding edgeFaultAt edgeRest edgeOrder
+row-edge s t h j p f up =
+    let a = good-after j (edgeKeyAt t (j - 1)) (edgeKeyAt t j) up in
+    else-none _ _ (good-shape _ _ p) ∙ (else-none _ _ (good-fit _ _ _ _ f) ∙ line-none _ _ _ (a .0) (line-none _ _ _ (a .1) refl))
+
+-- ---- the whole sheet
+
+pub accepted : (p : ℕ) (s : List ℕ) → verdict p s .number ≡ 0 → Accepted s
+unfolding verdict rowsVerdict
+accepted p s e =
+    let v = refuse-good _ _ _ _ e in
+    let t = then-good _ _ (v .1) in
+    let w = sheet-good s (v .0) in
+    let nodes : (i : ℕ) → i < headerOf s .nodes → nodeFaultAt s (headerOf s) i ≡ 0 = rows-good _ _ _ (t .0) in
+    let edges : (j : ℕ) → j < headerOf s .edges → edgeFaultAt s (edgeTable s) (headerOf s) j ≡ 0 = rows-good _ _ _ (t .1) in
+    record {
+      head = refl;
+      table = refl;
+      nodes = record {
+        header = w .1;
+        fit = λ i h. node-row _ _ _ (nodes i h) .0;
+        rise = onward (nodeKeyAt s) _ (λ i h. node-row _ _ _ (nodes i h) .1);
+      };
+      edges = record {
+        room = omega (arith, w .1, length-drop (headerOf s .edgeoffset) s);
+        shaped = λ j h. edge-row _ _ _ _ (edges j h) .0;
+        fit = λ j h. edge-row _ _ _ _ (edges j h) .1;
+        rise = onward (edgeKeyAt (edgeTable s)) _ (λ j h. edge-row _ _ _ _ (edges j h) .2);
+      };
+    }
+
+pub not-refused : (p : ℕ) (s : List ℕ) → Accepted s → verdict p s ≡ none
+unfolding verdict rowsVerdict
+not-refused p s w =
+    refuse-none _ _ _ _ (good-sheet s (w .nodes .header))
+    ∙ (then-none _ _ (rows-none p _ _ (λ i h. row-node s (headerOf s) i (w .nodes .fit i h) (back (nodeKeyAt s) _ (w .nodes .rise) i h)))
+    ∙ rows-none p _ _ (λ j h. row-edge s (edgeTable s) (headerOf s) j (w .edges .shaped j h) (w .edges .fit j h) (back (edgeKeyAt (edgeTable s)) _ (w .edges .rise) j h)))

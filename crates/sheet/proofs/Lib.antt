@@ -1,0 +1,6 @@
+pub mod Refusing
+pub mod Writing
+pub mod Accepting
+pub mod Sizes
+pub mod Naming
+pub mod Places

@@ -1,0 +1,101 @@
+-- The seam: an accepted sheet's tables rise, and what an office sees of them is its marked rows. Below it there are row numbers, above it none.
+-- Assumes nothing.
+use Prim.Native.Nat.{ℕ, _+_, _^_, _<_}
+use mathlib.Core.Path.{_≡_, refl, sym, _∙_, ap}
+use mathlib.Core.Bool.{Bool, true, false, true≢false}
+use mathlib.Core.List.{List, [], _∷_, _++_}
+use native.Mathlib.Omega.{arith}
+use Rattle.tables.specs.Key.{Key, identity, relation, belowKey}
+use Rattle.tables.specs.Marks.{marked, within}
+use Rattle.tables.specs.Table.{Row, rowsOf, Rise}
+use Rattle.tables.specs.Office.{Tables, View, seenBy}
+use Rattle.tables.proofs.Keys.{Ahead, first, rest, ahead, behind, below-first, below-second, rises, one-row}
+use Rattle.tables.proofs.Marks.{within-marked}
+use Rattle.tables.proofs.Tables.{rows-rise, MarkedRow, seen-row, row-seen}
+use Rattle.sheet.specs.declared.Header.{Header}
+use Rattle.sheet.specs.declared.Edge.{Edge}
+use Rattle.sheet.specs.Rows.{headerOf, nodeAt, edgeAt, edgeTable, nodeKey, edgeKey, nodeKeyAt, edgeKeyAt, endsFit}
+use Rattle.sheet.specs.Accepted.{Rising, NodesFormed, EdgesFormed, WellFormed, Accepted}
+use Rattle.sheet.specs.Named.{nodeRow, edgeRow, tablesOf, seenAt}
+
+-- the key of a relation, from its row
+abbrev relationAt : List ℕ → Edge → Key
+relationAt s e = relation (e .kind) (nodeKeyAt s (e .from)) (nodeKeyAt s (e .to))
+
+-- edge rows that rise by row numbers rise by what they name, since node rows rise
+lower-named : (s : List ℕ) (n : ℕ) → Rising (nodeKeyAt s) n → (e d : Edge) → e .from < n → d .from < n → e .to < n → d .to < n
+    → belowKey (edgeKey e) (edgeKey d) ≡ true → belowKey (relationAt s e) (relationAt s d) ≡ true
+lower-named s n up e d ef df et dt l = behind _ _ _ _ (kinds (ahead _ _ _ _ l))
+  where
+    tos : Ahead (e .to) (d .to) [] [] → belowKey (nodeKeyAt s (e .to)) (nodeKeyAt s (d .to)) ≡ true
+    tos (first m) = rises (nodeKeyAt s) n up (e .to) (d .to) m dt
+    tos (rest q m) = absurd (true≢false (sym m))
+
+    froms : Ahead (e .from) (d .from) (e .to ∷ []) (d .to ∷ []) → belowKey (nodeKeyAt s (e .from) ++ nodeKeyAt s (e .to)) (nodeKeyAt s (d .from) ++ nodeKeyAt s (d .to)) ≡ true
+    froms (first m) = below-first (nodeKeyAt s (e .from)) (nodeKeyAt s (d .from)) (nodeKeyAt s (e .to)) (nodeKeyAt s (d .to)) refl (rises (nodeKeyAt s) n up (e .from) (d .from) m df)
+    froms (rest q m) = rw q (below-second (nodeKeyAt s (d .from)) (nodeKeyAt s (e .to)) (nodeKeyAt s (d .to)) (tos (ahead _ _ _ _ m)))
+
+    kinds : Ahead (e .kind) (d .kind) (e .from ∷ e .to ∷ []) (d .from ∷ d .to ∷ [])
+        → Ahead (e .kind) (d .kind) (nodeKeyAt s (e .from) ++ nodeKeyAt s (e .to)) (nodeKeyAt s (d .from) ++ nodeKeyAt s (d .to))
+    kinds (first m) = first m
+    kinds (rest q m) = rest q (froms (ahead _ _ _ _ m))
+
+module _ (s : List ℕ) (w : Accepted s) where
+  nodes-up : Rising (λ i. nodeRow s i .key) (headerOf s .nodes)
+  unfolding nodeRow
+  nodes-up = w .nodes .rise
+
+  edges-up : Rising (λ j. edgeRow s (edgeTable s) j .key) (headerOf s .edges)
+  unfolding edgeRow
+  edges-up j h =
+      let a = w .edges .shaped j (omega arith) in
+      let b = w .edges .shaped (j + 1) h in
+      lower-named s (headerOf s .nodes) (w .nodes .rise) (edgeAt (edgeTable s) j) (edgeAt (edgeTable s) (j + 1)) (a .from) (b .from) (a .to) (b .to) (w .edges .rise j h)
+
+  -- both tables rise, with marks of offices within the count
+  pub nodes-rise : Rise (2 ^ (tablesOf s .offices)) [] (tablesOf s .nodes)
+  unfolding tablesOf nodeRow
+  nodes-rise = rows-rise _ [] _ (nodeRow s) (λ h. refl) (nodes-up) (λ i h. (w .nodes .fit i h .marks .some, w .nodes .fit i h .marks .high))
+
+  pub edges-rise : Rise (2 ^ (tablesOf s .offices)) [] (tablesOf s .edges)
+  unfolding tablesOf edgeRow
+  edges-rise = rows-rise _ [] _ (edgeRow s (edgeTable s)) (λ h. refl) (edges-up) (λ j h. (w .edges .fit j h .marks .some, w .edges .fit j h .marks .high))
+
+  -- an identity stands at an office exactly if one of its node rows bears the mark ..
+  pub node-seen : (office : ℕ) (k : Key) → seenAt s office .node k ≡ true → MarkedRow (headerOf s .nodes) (nodeRow s) office k
+  unfolding seenBy tablesOf
+  node-seen office k e = seen-row _ _ (one-row _ _ nodes-up) office k e
+
+  pub seen-node : (office : ℕ) (k : Key) → MarkedRow (headerOf s .nodes) (nodeRow s) office k → seenAt s office .node k ≡ true
+  unfolding seenBy tablesOf
+  seen-node office k r = row-seen _ _ (one-row _ _ nodes-up) office k r
+
+  -- .. and a relation exactly if one of its edge rows does
+  pub edge-seen : (office : ℕ) (k : Key) → seenAt s office .edge k ≡ true → MarkedRow (headerOf s .edges) (edgeRow s (edgeTable s)) office k
+  unfolding seenBy tablesOf
+  edge-seen office k e = seen-row _ _ (one-row _ _ edges-up) office k e
+
+  pub seen-edge : (office : ℕ) (k : Key) → MarkedRow (headerOf s .edges) (edgeRow s (edgeTable s)) office k → seenAt s office .edge k ≡ true
+  unfolding seenBy tablesOf
+  seen-edge office k r = row-seen _ _ (one-row _ _ edges-up) office k r
+
+  -- the end of a marked edge row stands at the office too
+  end-seen : (office j i : ℕ) → i < headerOf s .nodes → within (edgeAt (edgeTable s) j .offices) (nodeAt s i .offices) ≡ true
+      → marked (edgeAt (edgeTable s) j .offices) office ≡ true → seenAt s office .node (nodeKeyAt s i) ≡ true
+  unfolding nodeRow
+  end-seen office j i h inside bears = seen-node office (nodeKeyAt s i) (record { row = i; inside = h; names = refl; bears = within-marked _ _ office inside bears })
+
+  -- so a relation that stands has ends that stand, of the types that its kind has
+  pub ends-seen : (office kind t n v t′ n′ v′ : ℕ) → seenAt s office .edge (relation kind (identity t n v) (identity t′ n′ v′)) ≡ true
+      → (seenAt s office .node (identity t n v) ≡ true) × (seenAt s office .node (identity t′ n′ v′) ≡ true) × (endsFit kind t t′ ≡ true)
+  unfolding edgeRow
+  ends-seen office kind t n v t′ n′ v′ e =
+      let r = edge-seen office (relation kind (identity t n v) (identity t′ n′ v′)) e in
+      let p = w .edges .shaped (r .row) (r .inside) in
+      let f = w .edges .fit (r .row) (r .inside) in
+      let from : nodeKeyAt s (edgeAt (edgeTable s) (r .row) .from) ≡ identity t n v = cc (r .names) in
+      let to : nodeKeyAt s (edgeAt (edgeTable s) (r .row) .to) ≡ identity t′ n′ v′ = cc (r .names) in (
+        ap (λ (k : Key). seenAt s office .node k) (sym from) ∙ end-seen office (r .row) _ (p .from) (f .in-from) (r .bears),
+        ap (λ (k : Key). seenAt s office .node k) (sym to) ∙ end-seen office (r .row) _ (p .to) (f .in-to) (r .bears),
+        cc (r .names, f .ends),
+      )

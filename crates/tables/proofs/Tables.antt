@@ -1,0 +1,88 @@
+-- The rows of a table and the marks at a key.
+-- Assumes nothing.
+use Prim.Native.Nat.{ℕ, zero, suc, _+_, _≤_, _<_}
+use mathlib.Core.Path.{_≡_, refl, sym, ap, _∙_}
+use mathlib.Core.Bool.{Bool, true, false, cond, true≢false}
+use mathlib.Core.List.{List, [], _∷_}
+use native.Mathlib.Omega.{arith}
+use native.Mathlib.Nat.{add-zero, zero-add}
+use Rattle.tables.specs.Key.{Key, sameKey, belowKey}
+use Rattle.tables.specs.Marks.{marked}
+use Rattle.tables.specs.Table.{Row, Table, rowsOf, marksAt, Rise}
+use Rattle.tables.proofs.Keys.{same-refl, same-eq, ne-same}
+use Rattle.tables.proofs.Marks.{marked-some}
+
+-- row i, below n, has the key k
+pub record RowAt (n : ℕ) (f : ℕ → Row) (k : Key) : Type 0 where
+  pub row : ℕ
+  pub inside : row < n
+  pub names : f row .key ≡ k
+
+-- where no row has the key, its marks are none
+pub marks-none : (n : ℕ) (f : ℕ → Row) (k : Key) → ((i : ℕ) → i < n → f i .key ≡ k → ⊥) → marksAt (rowsOf n f) k ≡ 0
+unfolding rowsOf marksAt
+marks-none zero f k h = refl
+marks-none (suc n) f k h =
+    rw (ne-same (f 0 .key) k (h 0 (omega arith))) (zero-add (marksAt (rowsOf n (λ i. f (suc i))) k) ∙ marks-none n (λ i. f (suc i)) k (λ i l. h (suc i) (omega arith)))
+
+-- where rows have keys of their own, the marks at a row's key are the row's
+pub marks-row : (n : ℕ) (f : ℕ → Row) → ((i j : ℕ) → i < n → j < n → f i .key ≡ f j .key → i ≡ j)
+    → (i : ℕ) → i < n → marksAt (rowsOf n f) (f i .key) ≡ f i .marks
+unfolding rowsOf marksAt
+marks-row zero f own i l = absurd (omega (arith, l))
+marks-row (suc n) f own zero l =
+    let none = marks-none n (λ i. f (suc i)) (f 0 .key) (λ i g e. omega (arith, own (suc i) 0 (omega arith) (omega arith) e)) in
+    rw (same-refl (f 0 .key), none) (add-zero (f 0 .marks))
+marks-row (suc n) f own (suc i) l =
+    let apart : f 0 .key ≡ f (suc i) .key → ⊥ = λ e. omega (arith, own 0 (suc i) (omega arith) l e) in
+    rw (ne-same (f 0 .key) (f (suc i) .key) apart)
+    (zero-add (marksAt (rowsOf n (λ j. f (suc j))) (f (suc i) .key))
+    ∙ marks-row n (λ j. f (suc j)) (λ a b g h e. omega (arith, own (suc a) (suc b) (omega arith) (omega arith) e)) i (omega (arith, l)))
+
+-- a key that has marks has a row
+pub row-of : (n : ℕ) (f : ℕ → Row) (k : Key) → 0 < marksAt (rowsOf n f) k → RowAt n f k
+unfolding rowsOf marksAt
+row-of zero f k h = absurd (omega (arith, h))
+row-of (suc n) f k h = go (sameKey (f 0 .key) k) refl (row-of n (λ i. f (suc i)) k)
+  where
+    go : (b : Bool) → sameKey (f 0 .key) k ≡ b → (0 < marksAt (rowsOf n (λ i. f (suc i))) k → RowAt n (λ i. f (suc i)) k) → RowAt (suc n) f k
+    go true e more = record { row = 0; inside = omega arith; names = same-eq (f 0 .key) k e }
+    go false e more =
+        let later = more (rw zero-add at (rw e at h)) in
+        record { row = suc (later .row); inside = omega (arith, later .inside); names = later .names }
+
+-- rows that rise, with marks of offices below the top, are a rising table
+pub rows-rise : (top : ℕ) (low : Key) (n : ℕ) (f : ℕ → Row) → (0 < n → belowKey low (f 0 .key) ≡ true)
+    → ((i : ℕ) → i + 1 < n → belowKey (f i .key) (f (i + 1) .key) ≡ true) → ((i : ℕ) → i < n → (0 < f i .marks) × (f i .marks < top)) → Rise top low (rowsOf n f)
+unfolding rowsOf Rise
+rows-rise top low zero f start up marks = tt
+rows-rise top low (suc n) f start up marks = (
+  start (omega arith),
+  marks 0 (omega arith) .0,
+  marks 0 (omega arith) .1,
+  rows-rise top (f 0 .key) n (λ i. f (suc i))
+      (λ h. up 0 (omega arith))
+      (λ i h. let e : suc i + 1 ≡ suc (i + 1) = omega arith in rw e at (up (suc i) (omega arith)))
+      (λ i h. marks (suc i) (omega arith)),
+)
+
+-- ---- what an office sees of rows that have keys of their own: the marked ones
+
+-- row i, below n, has the key k and bears the office's mark
+pub record MarkedRow (n : ℕ) (f : ℕ → Row) (office : ℕ) (k : Key) : Type 0 where
+  pub row : ℕ
+  pub inside : row < n
+  pub names : f row .key ≡ k
+  pub bears : marked (f row .marks) office ≡ true
+
+module _ (n : ℕ) (f : ℕ → Row) (own : (i j : ℕ) → i < n → j < n → f i .key ≡ f j .key → i ≡ j) (office : ℕ) where
+  pub seen-row : (k : Key) → marked (marksAt (rowsOf n f) k) office ≡ true → MarkedRow n f office k
+  seen-row k e =
+      let at = row-of n f k (marked-some (marksAt (rowsOf n f) k) office e) in
+      let here : marksAt (rowsOf n f) k ≡ f (at .row) .marks = ap (marksAt (rowsOf n f)) (sym (at .names)) ∙ marks-row n f own (at .row) (at .inside) in
+      record { row = at .row; inside = at .inside; names = at .names; bears = ap (λ (m : ℕ). marked m office) (sym here) ∙ e }
+
+  pub row-seen : (k : Key) → MarkedRow n f office k → marked (marksAt (rowsOf n f) k) office ≡ true
+  row-seen k r =
+      let here : marksAt (rowsOf n f) k ≡ f (r .row) .marks = ap (marksAt (rowsOf n f)) (sym (r .names)) ∙ marks-row n f own (r .row) (r .inside) in
+      ap (λ (m : ℕ). marked m office) here ∙ r .bears

@@ -1,0 +1,4 @@
+pub mod Key
+pub mod Marks
+pub mod Table
+pub mod Office

@@ -1,0 +1,184 @@
+// Puts any input to every public function, for a program outside: requests on standard input, a reply to each on standard output.
+// The trial program's page in docs/TRIAL.md has the form of both.
+use libc::STDIN_FILENO;
+use libc::STDOUT_FILENO;
+use sheet::Refusal;
+ghost use mathlib.Core.Path.{_≡_};
+ghost use Prim.Native.Nat.{ℕ, _*_, _≤_};
+ghost use lib.ListN.{length, replicate};
+ghost use Rattle.sheet.specs.Verdict.{verdict};
+ghost use Rattle.files.specs.Bytes.{wordsOf};
+
+// The longest payload in bytes, and the longest output in words.
+const MAX_PAYLOAD: usize = 80000;
+
+const MAX_OUTPUT: usize = 20000;
+
+struct Request {
+    operation: u32,
+    first: u32,
+    second: u32,
+    room: u32,
+    fill: u32,
+}
+
+struct Reply {
+    number: u32,
+    sheet: u32,
+    row: u32,
+    value: u32,
+    count: u32,
+    extra: u32,
+    further: u32,
+}
+
+// The reply of an operation that tells a refusal's number and place alone.
+fn told(r: Refusal) -> Reply {
+    Reply {
+        number: r.number,
+        sheet: r.sheet,
+        row: r.row,
+        value: 0,
+        count: 0,
+        extra: 0,
+        further: 0,
+    }
+}
+
+// The words of a payload, judged as a sheet.
+fn check_payload(bytes: &[u8]) -> Refusal
+    requires { ⌜ length (now bytes) ≤ 80000 ⌝ }
+    ensures { λ r. ⌜ r ≡ verdict 1 (wordsOf (now (bytes .entry))) ⌝ }
+{
+    let mut words = [0u32; MAX_OUTPUT];
+    files::decode(bytes, &mut words);
+    let n = bytes.len() / 4;
+    verdict::check(&words[0..n])
+}
+
+// The operation's function on its payloads and its output.
+fn answer(q: Request, first: &[u8], second: &[u8], out: &mut [u32]) -> Reply
+    requires { ⌜ (length (now first) ≤ 80000) × (length (now second) ≤ 80000) ⌝ }
+{
+    let operation = q.operation;
+    match operation {
+        0 => told(check_payload(first)),
+        20 => told(files::check_bytes(first)),
+        _ => told(Refusal {
+            number: 4294967295,
+            sheet: 0,
+            row: 0,
+        }),
+    }
+}
+
+// Every word of the output, as the request fills it.
+fn fill(out: &mut [u32], word: u32)
+    ensures { λ _. ⌜ now (out .exit) ≡ replicate (length (now (out .entry))) word ⌝ }
+{
+    let n = out.len();
+    let mut i: usize = 0;
+    while i < n {
+        out[i] = word;
+        i += 1;
+    }
+}
+
+// Writes words to standard output.
+fn send(words: &[u32])
+    requires { ⌜ length (now words) ≤ 20000 ⌝ }
+{
+    let mut bytes = [0u8; MAX_PAYLOAD];
+    files::encode(words, &mut bytes);
+    let n = 4 * words.len();
+    io::write_all(STDOUT_FILENO, &bytes[0..n]);
+}
+
+// Answers one request on its payloads, and writes the reply with the whole output behind it.
+fn respond(q: Request, first: &[u8], second: &[u8])
+    requires { ⌜ (length (now first) ≤ 80000) × (length (now second) ≤ 80000) × (q .room ≤ 20000) ⌝ }
+{
+    let mut space = [0u32; MAX_OUTPUT];
+    let room = q.room as usize;
+    let out = &mut space[0..room];
+    fill(out, q.fill);
+    let r = answer(q, first, second, out);
+    send(
+        &[
+            r.number,
+            r.sheet,
+            r.row,
+            r.value,
+            r.count,
+            r.extra,
+            r.further,
+            q.room,
+        ],
+    );
+    send(out);
+}
+
+// Fills the bytes from standard input; false where it ends first.
+fn fetch(bytes: &mut [u8]) -> bool {
+    let n = bytes.len();
+    io::read_full(STDIN_FILENO, bytes) == n
+}
+
+// The words of a request that this program looks at.
+fn request_of(head: &[u8]) -> Request {
+    let mut words = [0u32; 12];
+    files::decode(head, &mut words);
+    Request {
+        operation: words[0],
+        first: words[7],
+        second: words[8],
+        room: words[9],
+        fill: words[10],
+    }
+}
+
+// Reads a request's payloads, and answers it; false where the input ends first.
+fn attend(q: Request, first: &mut [u8], second: &mut [u8]) -> bool
+    requires { ⌜ (length (now first) ≤ 80000) × (length (now second) ≤ 80000) × (q .room ≤ 20000) ⌝ }
+{
+    if !fetch(first) {
+        return false;
+    }
+    if !fetch(second) {
+        return false;
+    }
+    respond(q, first, second);
+    true
+}
+
+// Reads one request, and answers it; false where the input has no whole one, or its lengths are over the limits.
+fn serve() -> bool {
+    let mut head = [0u8; 48];
+    if !fetch(&mut head) {
+        return false;
+    }
+    let q = request_of(&head);
+    let a = q.first as usize;
+    let b = q.second as usize;
+    let room = q.room as usize;
+    if MAX_PAYLOAD < a {
+        return false;
+    }
+    if MAX_PAYLOAD < b {
+        return false;
+    }
+    if MAX_OUTPUT < room {
+        return false;
+    }
+    let mut first = [0u8; MAX_PAYLOAD];
+    let mut second = [0u8; MAX_PAYLOAD];
+    attend(q, &mut first[0..a], &mut second[0..b])
+}
+
+// A proved loop has to end, and nothing says that the input does. So the loop counts its turns down, from a number that no run uses up.
+fn main() {
+    let mut turns = u64::MAX;
+    while turns > 0 && serve() {
+        turns -= 1;
+    }
+}

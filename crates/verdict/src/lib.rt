@@ -1,0 +1,284 @@
+// The check: refusals 1 to 17 of any words, with their place.
+use sheet::EDGE_WORDS;
+use sheet::Edge;
+use sheet::HEADER_WORDS;
+use sheet::Header;
+use sheet::MAX_EDGES;
+use sheet::MAX_NODES;
+use sheet::MAX_OFFICES;
+use sheet::NODE_WORDS;
+use sheet::Node;
+use sheet::Refusal;
+ghost use mathlib.Core.Path.{_≡_};
+ghost use Prim.Native.Nat.{ℕ, _<_, _≤_};
+ghost use lib.ListN.{length};
+ghost use Rattle.tables.specs.Marks.{marksFit, within};
+ghost use Rattle.sheet.specs.Limits.{maxOffices};
+ghost use Rattle.sheet.specs.Refusals.{_orElse_, firstRow};
+ghost use Rattle.sheet.specs.Rows.{endsFit};
+ghost use Rattle.sheet.specs.Verdict.{headerFault, sheetFault, nodeFault, nodeOrder, nodeFaultAt, edgeShape, edgeFit, edgeOrder, edgeRest, edgeFaultAt, rowsVerdict, verdict};
+ghost use Rattle.sheet.specs.Accepted.{HeaderFits, EdgeRoom, EdgeShaped};
+
+// Whether the marks are a sum of marks of offices within the count, not 0.
+fn marks_fit(offices: u32, marks: u32) -> bool
+    requires { ⌜ offices ≤ maxOffices ⌝ }
+    ensures { λ r. ⌜ r ≡ marksFit offices marks ⌝ }
+{
+    (0 < marks) & (marks < (1u32 << offices))
+}
+
+// Whether each mark of the first sum is in the second.
+fn marks_within(marks: u32, others: u32) -> bool
+    ensures { λ r. ⌜ r ≡ within marks others ⌝ }
+{
+    (marks & others) == marks
+}
+
+// Whether the types of an edge's ends fit its kind.
+fn ends_fit(kind: u32, from: u32, to: u32) -> bool
+    ensures { λ r. ⌜ r ≡ endsFit kind from to ⌝ }
+{
+    ((kind == 1) & ((from == 1) & (to == 2)))
+        | (((kind == 2) & ((from == 2) & (to == 2)))
+            | (((kind == 3) & ((from == 2) & (to == 3)))
+                | (((kind == 4) & ((from == 2) & (to == 3)))
+                    | ((kind == 5) & ((from == 3) & (to == 4))))))
+}
+
+// The first of two numbers that is not 0.
+fn or_else(first: u32, second: u32) -> u32
+    ensures { λ r. ⌜ r ≡ (first orElse second) ⌝ }
+{
+    if first != 0 { first } else { second }
+}
+
+// 2 to 5, of the header of a sheet of `words` words.
+fn header_fault(h: Header, words: usize) -> u32
+    ensures { λ r. ⌜ r ≡ headerFault h words ⌝ }
+{
+    let n = h.nodes as usize;
+    let e = h.edges as usize;
+    let start = h.nodeoffset as usize;
+    let from = h.edgeoffset as usize;
+    let edges_from = HEADER_WORDS + NODE_WORDS * n;
+    if h.form != 1 {
+        return 2;
+    }
+    if (h.offices < 1) | (MAX_OFFICES < h.offices) {
+        return 3;
+    }
+    if (MAX_NODES < h.nodes) | (MAX_EDGES < h.edges) {
+        return 4;
+    }
+    if !((start == HEADER_WORDS)
+        & ((from == edges_from) & (words == edges_from + EDGE_WORDS * e))) {
+        return 5;
+    }
+    0
+}
+
+// 1 to 5.
+fn sheet_fault(sheet: &[u32]) -> u32
+    ensures { λ r. ⌜ r ≡ sheetFault (now (sheet .entry)) ⌝ }
+{
+    if sheet.len() < HEADER_WORDS {
+        return 1;
+    }
+    header_fault(sheet::header_of(sheet), sheet.len())
+}
+
+// 6 to 8, of a node row by itself.
+fn node_fault(h: Header, r: Node) -> u32
+    requires { ⌜ h .offices ≤ maxOffices ⌝ }
+    ensures { λ k. ⌜ k ≡ nodeFault h r ⌝ }
+{
+    if (r.class < 1) | (4 < r.class) {
+        return 6;
+    }
+    if (r.number == 0) | ((r.class != 3) & (r.variant != 0)) {
+        return 7;
+    }
+    if !marks_fit(h.offices, r.offices) {
+        return 8;
+    }
+    0
+}
+
+// 9 and 10, of node row i beside the row before it.
+fn node_order(i: usize, before: Node, r: Node) -> u32
+    ensures { λ k. ⌜ k ≡ nodeOrder i before r ⌝ }
+{
+    if (0 < i) & sheet::same_node(before, r) {
+        return 9;
+    }
+    if (0 < i) & sheet::below_node(r, before) {
+        return 10;
+    }
+    0
+}
+
+// 11 and 12, of an edge row by itself.
+fn edge_shape(h: Header, e: Edge) -> u32
+    ensures { λ k. ⌜ k ≡ edgeShape h e ⌝ }
+{
+    if (e.kind < 1) | (5 < e.kind) {
+        return 11;
+    }
+    if !((e.from < h.nodes) & (e.to < h.nodes)) {
+        return 12;
+    }
+    0
+}
+
+// 13 to 15, of an edge row with the nodes at its ends.
+fn edge_fit(h: Header, e: Edge, a: Node, b: Node) -> u32
+    requires { ⌜ h .offices ≤ maxOffices ⌝ }
+    ensures { λ k. ⌜ k ≡ edgeFit h e a b ⌝ }
+{
+    if !ends_fit(e.kind, a.class, b.class) {
+        return 13;
+    }
+    if (e.kind == 2) & (e.from == e.to) {
+        return 14;
+    }
+    if !(marks_fit(h.offices, e.offices)
+        & (marks_within(e.offices, a.offices) & marks_within(e.offices, b.offices))) {
+        return 15;
+    }
+    0
+}
+
+// 16 and 17, of edge row j beside the row before it.
+fn edge_order(j: usize, before: Edge, e: Edge) -> u32
+    ensures { λ k. ⌜ k ≡ edgeOrder j before e ⌝ }
+{
+    if (0 < j) & sheet::same_edge(before, e) {
+        return 16;
+    }
+    if (0 < j) & sheet::below_edge(e, before) {
+        return 17;
+    }
+    0
+}
+
+// 6 to 10, of node row i.
+fn node_fault_at(sheet: &[u32], h: Header, i: usize) -> u32
+    requires { ⌜ HeaderFits h (length (now sheet)) × (i < h .nodes) ⌝ }
+    ensures { λ k. ⌜ k ≡ nodeFaultAt (now (sheet .entry)) h i ⌝ }
+{
+    let r = sheet::node_at(sheet, i);
+    or_else(
+        node_fault(h, r),
+        node_order(i, sheet::node_at(sheet, sheet::before(i)), r),
+    )
+}
+
+// 13 to 17, of edge row j, which is e and whose ends are rows of the sheet.
+fn edge_rest(sheet: &[u32], edges: &[u32], h: Header, j: usize, e: Edge) -> u32
+    requires { ⌜ HeaderFits h (length (now sheet)) × EdgeRoom h (now edges) × (j < h .edges) × EdgeShaped h e ⌝ }
+    ensures { λ k. ⌜ k ≡ edgeRest (now (sheet .entry)) (now (edges .entry)) h j e ⌝ }
+{
+    let a = sheet::node_at(sheet, e.from as usize);
+    let b = sheet::node_at(sheet, e.to as usize);
+    let p = sheet::edge_at(edges, h, sheet::before(j));
+    or_else(edge_fit(h, e, a, b), edge_order(j, p, e))
+}
+
+// 11 to 17, of row j of the edge table.
+fn edge_fault_at(sheet: &[u32], edges: &[u32], h: Header, j: usize) -> u32
+    requires { ⌜ HeaderFits h (length (now sheet)) × EdgeRoom h (now edges) × (j < h .edges) ⌝ }
+    ensures { λ k. ⌜ k ≡ edgeFaultAt (now (sheet .entry)) (now (edges .entry)) h j ⌝ }
+{
+    let e = sheet::edge_at(edges, h, j);
+    let k = edge_shape(h, e);
+    if k != 0 {
+        return k;
+    }
+    edge_rest(sheet, edges, h, j, e)
+}
+
+// The first node row that has a number, of the sheet that the caller counts as `place`.
+fn check_nodes(place: u32, sheet: &[u32], h: Header) -> Refusal
+    requires { ⌜ HeaderFits h (length (now sheet)) ⌝ }
+    ensures { λ r. ⌜ r ≡ firstRow place (nodeFaultAt (now (sheet .entry)) h) 0 (h .nodes) ⌝ }
+{
+    let n = h.nodes;
+    let mut i: u32 = 0;
+    while i < n {
+        let k = node_fault_at(sheet, h, i as usize);
+        if k != 0 {
+            return Refusal {
+                number: k,
+                sheet: place,
+                row: i,
+            };
+        }
+        i += 1;
+    }
+    Refusal {
+        number: 0,
+        sheet: 0,
+        row: 0,
+    }
+}
+
+// The first row of the edge table that has a number.
+fn check_edges(place: u32, sheet: &[u32], edges: &[u32], h: Header) -> Refusal
+    requires { ⌜ HeaderFits h (length (now sheet)) × EdgeRoom h (now edges) ⌝ }
+    ensures { λ r. ⌜ r ≡ firstRow place (edgeFaultAt (now (sheet .entry)) (now (edges .entry)) h) 0 (h .edges) ⌝ }
+{
+    let e = h.edges;
+    let mut j: u32 = 0;
+    while j < e {
+        let k = edge_fault_at(sheet, edges, h, j as usize);
+        if k != 0 {
+            return Refusal {
+                number: k,
+                sheet: place,
+                row: j,
+            };
+        }
+        j += 1;
+    }
+    Refusal {
+        number: 0,
+        sheet: 0,
+        row: 0,
+    }
+}
+
+// 6 to 17: rows one at a time, nodes first.
+fn check_rows(place: u32, sheet: &[u32], h: Header) -> Refusal
+    requires { ⌜ HeaderFits h (length (now sheet)) ⌝ }
+    ensures { λ r. ⌜ r ≡ rowsVerdict place (now (sheet .entry)) h ⌝ }
+{
+    let v = check_nodes(place, sheet, h);
+    if v.number != 0 {
+        return v;
+    }
+    let from = h.edgeoffset as usize;
+    let edges = &sheet[from..];
+    check_edges(place, sheet, edges, h)
+}
+
+// The verdict on any words, as the sheet that the caller counts as `place`: the first number of 1 to 17 that applies, or none.
+pub fn check_as(place: u32, sheet: &[u32]) -> Refusal
+    ensures { λ r. ⌜ r ≡ verdict place (now (sheet .entry)) ⌝ }
+{
+    let k = sheet_fault(sheet);
+    if k != 0 {
+        return Refusal {
+            number: k,
+            sheet: place,
+            row: 0,
+        };
+    }
+    check_rows(place, sheet, sheet::header_of(sheet))
+}
+
+// The verdict on any words where there is one sheet.
+pub fn check(sheet: &[u32]) -> Refusal
+    ensures { λ r. ⌜ r ≡ verdict 1 (now (sheet .entry)) ⌝ }
+{
+    check_as(1, sheet)
+}

@@ -1,0 +1,190 @@
+//! What is put to the trial, case by case. A case follows from the seed and
+//! its number alone.
+
+use crate::coverage::{self, Cell, CHECK_BYTES, CHECK_WORDS, UNKNOWN};
+use crate::damage;
+use crate::judge::{judge_bytes, judge_words, Verdict};
+use crate::make;
+use crate::named::{self, Named};
+use crate::random::Random;
+use crate::scramble;
+use crate::sheet::{bytes_of, words_of};
+use crate::trial::{Expected, Request, MOST_OUTPUT, MOST_PAYLOAD};
+
+/// What is remembered of a case while its reply is on the way.
+pub struct About {
+    pub number: usize,
+    pub kind: &'static str,
+    pub name: String,
+    pub cell: Cell,
+    /// The judge against what a named case says, or against the way a sheet
+    /// was made: a slip of this program, not of the trial.
+    pub own_fault: Option<String>,
+}
+
+impl About {
+    /// Cases that are neither named nor aimed have their kind alone.
+    pub fn title(&self) -> String {
+        match self.name.as_str() {
+            "" => self.kind.to_string(),
+            name => format!("{}: {name}", self.kind),
+        }
+    }
+}
+
+pub struct Case {
+    pub about: About,
+    pub request: Request,
+    pub expected: Expected,
+}
+
+/// First the named cases, then one aimed at each cell of the coverage table,
+/// then the random ones.
+pub struct Plan {
+    seed: u64,
+    named: Vec<Named>,
+    targets: Vec<Cell>,
+    random: usize,
+}
+
+type Maker = fn(&mut Random) -> Vec<u8>;
+
+/// Kinds made without a target, and their shares out of 100; the rest is
+/// "damaged".
+const KINDS: [(&str, usize, Maker); 10] = [
+    ("valid", 20, valid),
+    ("several faults", 24, damage::several),
+    ("random words", 4, scramble::random_words),
+    ("words after a header", 8, scramble::words_after_header),
+    ("cut or longer", 6, scramble::resized),
+    ("flipped bits", 6, scramble::flipped_bits),
+    ("swapped words", 3, scramble::swapped_words),
+    ("swapped rows", 3, scramble::swapped_rows),
+    ("duplicated row", 3, scramble::duplicated_row),
+    ("unknown operation", 1, valid),
+];
+
+fn valid(random: &mut Random) -> Vec<u8> {
+    bytes_of(&make::any(random).words())
+}
+
+impl Plan {
+    pub fn new(seed: u64, random: usize) -> Plan {
+        let targets = coverage::needed()
+            .into_iter()
+            .filter(|cell| cell.number != 0 && cell.number != UNKNOWN)
+            .collect();
+        Plan { seed, named: named::all(), targets, random }
+    }
+
+    pub fn len(&self) -> usize {
+        self.named.len() + self.targets.len() + self.random
+    }
+
+    pub fn case(&self, number: usize) -> Case {
+        let mut random = Random::for_case(self.seed, number as u64);
+        let past_named = number.checked_sub(self.named.len());
+        match past_named {
+            None => self.named_case(&mut random, number),
+            Some(at) if at < self.targets.len() => {
+                aimed_case(&mut random, number, "tour", self.targets[at])
+            }
+            Some(_) => self.random_case(&mut random, number),
+        }
+    }
+
+    fn named_case(&self, random: &mut Random, number: usize) -> Case {
+        let named = &self.named[number];
+        let request = dress(random, named.operation, named.payload.clone());
+        let mut case = judged(number, "named", named.name.clone(), request);
+        let judge_says = (case.expected.reply[0], case.expected.reply[2]);
+        if judge_says != named.says {
+            let fault = format!("the document says {:?}, the judge {judge_says:?}", named.says);
+            case.about.own_fault = Some(fault);
+        }
+        case
+    }
+
+    fn random_case(&self, random: &mut Random, number: usize) -> Case {
+        let mut chance = random.below(100);
+        for (kind, share, make) in KINDS {
+            if chance < share {
+                return loose_case(random, number, kind, make);
+            }
+            chance -= share;
+        }
+        let target = random.pick(&self.targets);
+        aimed_case(random, number, "damaged", target)
+    }
+}
+
+fn aimed_case(random: &mut Random, number: usize, kind: &'static str, target: Cell) -> Case {
+    let payload = damage::aimed(random, target);
+    let request = dress(random, target.operation, payload);
+    judged(number, kind, format!("aimed at {target}"), request)
+}
+
+fn loose_case(random: &mut Random, number: usize, kind: &'static str, make: Maker) -> Case {
+    let operation = match kind {
+        "unknown operation" => random.pick(&[24, 25, 26, 27, 28, 29, u32::MAX]),
+        _ => random.pick(&[CHECK_WORDS, CHECK_BYTES]),
+    };
+    let mut payload = make(random);
+    // Dropped by the operation on words.
+    if operation == CHECK_WORDS && random.one_in(8) {
+        payload.resize(payload.len() / 4 * 4, 0);
+        let stray = random.between(1, 3);
+        payload.extend((0..stray).map(|_| random.word() as u8));
+        payload.truncate(MOST_PAYLOAD);
+    }
+    let request = dress(random, operation, payload);
+    let mut case = judged(number, kind, String::new(), request);
+    if kind == "valid" && case.expected.reply[0] != 0 {
+        case.about.own_fault = Some("made as a valid sheet, but refused by the judge".to_string());
+    }
+    case
+}
+
+fn judged(number: usize, kind: &'static str, name: String, request: Request) -> Case {
+    let expected = expect(&request);
+    let cell = coverage::cell(&request, &expected);
+    Case { about: About { number, kind, name, cell, own_fault: None }, request, expected }
+}
+
+/// Everything about a request that the operation must not look at.
+fn dress(random: &mut Random, operation: u32, first: Vec<u8>) -> Request {
+    let numbers = [0; 6].map(|_: u32| random.odd_word());
+    let out_len = match random.below(1000) {
+        0 => MOST_OUTPUT,
+        1..=20 => random.between(13, 600),
+        21..=200 => 0,
+        _ => random.between(1, 12),
+    };
+    let second_len = match random.below(1000) {
+        0 => MOST_PAYLOAD,
+        1..=100 => random.between(1, 70),
+        _ => 0,
+    };
+    let second = (0..second_len).map(|_| random.word() as u8).collect();
+    let fill = random.odd_word();
+    Request { operation, numbers, first, second, out_len, fill }
+}
+
+/// The whole reply, word for word. Neither check writes, so the output keeps
+/// its fill.
+pub fn expect(request: &Request) -> Expected {
+    let verdict = match request.operation {
+        CHECK_WORDS => judge_words(&words_of(&request.first)),
+        CHECK_BYTES => judge_bytes(&request.first),
+        _ => Verdict { number: UNKNOWN, row: 0 },
+    };
+    let sheet = match verdict.number {
+        0 | UNKNOWN => 0,
+        _ => 1,
+    };
+    let out_len = request.out_len as u32;
+    Expected {
+        reply: [verdict.number, sheet, verdict.row, 0, 0, 0, 0, out_len],
+        output: vec![request.fill; request.out_len],
+    }
+}

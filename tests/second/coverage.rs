@@ -1,0 +1,130 @@
+//! Which refusals were reached, where in their table, and by which operation.
+//! What was not reached was not tried, so each gap is a failed test.
+
+use std::collections::BTreeMap;
+use std::fmt;
+
+use crate::sheet::words_of;
+use crate::trial::{Expected, Request};
+
+pub const CHECK_WORDS: u32 = 0;
+pub const CHECK_BYTES: u32 = 20;
+pub const UNKNOWN: u32 = u32::MAX;
+
+#[derive(Clone, Copy, Debug, PartialEq, Eq, PartialOrd, Ord)]
+pub enum Place {
+    /// The sheet as a whole: no row is named.
+    Whole,
+    First,
+    Middle,
+    Last,
+    /// A row that is the first and the last at once shows neither.
+    Only,
+    /// The two reasons for 33.
+    Uneven,
+    TooLong,
+}
+
+pub const ROW_PLACES: [Place; 3] = [Place::First, Place::Middle, Place::Last];
+
+#[derive(Clone, Copy, Debug, PartialEq, Eq, PartialOrd, Ord)]
+pub struct Cell {
+    pub operation: u32,
+    pub number: u32,
+    pub place: Place,
+}
+
+impl fmt::Display for Cell {
+    fn fmt(&self, to: &mut fmt::Formatter) -> fmt::Result {
+        match self.number {
+            UNKNOWN => write!(to, "an unknown operation"),
+            number => write!(to, "{number}, {:?}, by operation {}", self.place, self.operation),
+        }
+    }
+}
+
+/// The first row at which a number can stand: nothing comes before row 0.
+pub fn first_row(number: u32) -> usize {
+    match number {
+        9 | 10 | 16 | 17 => 1,
+        _ => 0,
+    }
+}
+
+pub fn needed() -> Vec<Cell> {
+    let mut cells = Vec::new();
+    for operation in [CHECK_WORDS, CHECK_BYTES] {
+        for number in 0..=5 {
+            cells.push(Cell { operation, number, place: Place::Whole });
+        }
+        for number in 6..=17 {
+            cells.extend(ROW_PLACES.map(|place| Cell { operation, number, place }));
+        }
+    }
+    for place in [Place::Uneven, Place::TooLong] {
+        cells.push(Cell { operation: CHECK_BYTES, number: 33, place });
+    }
+    cells.push(Cell { operation: UNKNOWN, number: UNKNOWN, place: Place::Whole });
+    cells
+}
+
+/// Where a case stands in the table, from what is expected of it alone.
+pub fn cell(request: &Request, expected: &Expected) -> Cell {
+    let (number, row) = (expected.reply[0], expected.reply[2] as usize);
+    let header = words_of(&request.first);
+    let place = match number {
+        33 if request.first.len() % 4 != 0 => Place::Uneven,
+        33 => Place::TooLong,
+        6..=10 => place_in(row, first_row(number), header[2] as usize),
+        11..=17 => place_in(row, first_row(number), header[3] as usize),
+        _ => Place::Whole,
+    };
+    let operation = if number == UNKNOWN { UNKNOWN } else { request.operation };
+    Cell { operation, number, place }
+}
+
+fn place_in(row: usize, first: usize, count: usize) -> Place {
+    match (row == first, row + 1 == count) {
+        (true, true) => Place::Only,
+        (true, false) => Place::First,
+        (false, true) => Place::Last,
+        (false, false) => Place::Middle,
+    }
+}
+
+#[derive(Default)]
+pub struct Coverage {
+    counts: BTreeMap<Cell, usize>,
+}
+
+impl Coverage {
+    pub fn add(&mut self, cell: Cell) {
+        *self.counts.entry(cell).or_insert(0) += 1;
+    }
+
+    pub fn count(&self, cell: Cell) -> usize {
+        self.counts.get(&cell).copied().unwrap_or(0)
+    }
+
+    pub fn misses(&self) -> Vec<Cell> {
+        needed().into_iter().filter(|&cell| self.count(cell) == 0).collect()
+    }
+
+    pub fn print(&self) {
+        println!("rows reached:    by words                     by bytes");
+        println!("  number      first middle   last   only   first middle   last   only");
+        for number in 6..=17 {
+            let mut line = format!("  {number:>6}   ");
+            for operation in [CHECK_WORDS, CHECK_BYTES] {
+                for place in [Place::First, Place::Middle, Place::Last, Place::Only] {
+                    line += &format!(" {:>6}", self.count(Cell { operation, number, place }));
+                }
+                line += " ";
+            }
+            println!("{}", line.trim_end());
+        }
+        let uneven = Cell { operation: CHECK_BYTES, number: 33, place: Place::Uneven };
+        let too_long = Cell { place: Place::TooLong, ..uneven };
+        println!("  33: {} uneven, {} too long", self.count(uneven), self.count(too_long));
+    }
+}

@@ -1,0 +1,141 @@
+//! What a run prints.
+
+use std::collections::BTreeMap;
+use std::ops::Range;
+use std::sync::Arc;
+
+use crate::case::{About, Case, Plan};
+use crate::coverage::{needed, Coverage, UNKNOWN};
+use crate::sheet::{words_of, HEADER};
+use crate::tally::Tally;
+
+const MOST_SHOWN: usize = 10;
+
+pub struct Report {
+    plan: Arc<Plan>,
+    numbers: Range<usize>,
+    answered: usize,
+    /// One case alone is shown whole and cannot cover the table.
+    alone: bool,
+    tally: Tally,
+    shown: usize,
+    kinds: BTreeMap<&'static str, usize>,
+    outcomes: BTreeMap<u32, usize>,
+    coverage: Coverage,
+}
+
+impl Report {
+    pub fn new(plan: Arc<Plan>, numbers: Range<usize>, alone: bool) -> Report {
+        Report {
+            plan,
+            numbers,
+            answered: 0,
+            alone,
+            tally: Tally::default(),
+            shown: 0,
+            kinds: BTreeMap::new(),
+            outcomes: BTreeMap::new(),
+            coverage: Coverage::default(),
+        }
+    }
+
+    pub fn answered(&mut self, about: About, mut differences: Vec<String>) {
+        self.answered += 1;
+        *self.kinds.entry(about.kind).or_insert(0) += 1;
+        *self.outcomes.entry(about.cell.number).or_insert(0) += 1;
+        self.coverage.add(about.cell);
+        differences.extend(about.own_fault.clone());
+        let passed = differences.is_empty();
+        self.tally.count(passed);
+        if about.kind == "named" && passed {
+            println!("ok: {}", about.name);
+        }
+        if self.alone {
+            self.shown += 1;
+            self.show(&about, &differences, usize::MAX);
+        } else if !passed && self.shown < MOST_SHOWN {
+            self.shown += 1;
+            self.show(&about, &differences, 24);
+        }
+    }
+
+    /// The request is made again from its number: keeping all of them until
+    /// their replies come would take much room.
+    fn show(&self, about: &About, differences: &[String], most_rows: usize) {
+        let word = if differences.is_empty() { "case" } else { "FAILED: case" };
+        println!("{word} {}, {}", about.number, about.title());
+        for difference in differences {
+            println!("    {difference}");
+        }
+        let case = self.plan.case(about.number);
+        print_request(&case, most_rows);
+    }
+
+    pub fn close(mut self, faults: Vec<String>) -> Tally {
+        if self.tally.failed > self.shown {
+            println!("{} cases failed, {} are shown", self.tally.failed, self.shown);
+        }
+        for fault in &faults {
+            self.tally.test(&format!("the trial: {fault}"), false);
+        }
+        if faults.is_empty() {
+            self.tally.count(true);
+        }
+        self.count_unanswered();
+        if !self.alone {
+            self.print_counts();
+            self.test_coverage();
+        }
+        self.tally
+    }
+
+    /// Replies come in the order of the requests, so the first case without
+    /// one is known; it is likely the one that ended the trial.
+    fn count_unanswered(&mut self) {
+        let first = self.numbers.start + self.answered;
+        let unanswered = self.numbers.end - first;
+        if unanswered > 0 {
+            println!("FAILED: {unanswered} cases were not answered, the first of them:");
+            self.tally.failed += unanswered;
+            let about = self.plan.case(first).about;
+            self.show(&about, &["no reply".to_string()], 24);
+        }
+    }
+
+    fn print_counts(&self) {
+        println!("cases by kind:");
+        for (kind, count) in &self.kinds {
+            println!("  {kind}: {count}");
+        }
+        println!("cases by expected outcome:");
+        for number in (0..=17).chain([33, UNKNOWN]) {
+            let name = if number == UNKNOWN { "unknown".to_string() } else { number.to_string() };
+            println!("  {name}: {}", self.outcomes.get(&number).unwrap_or(&0));
+        }
+        self.coverage.print();
+    }
+
+    fn test_coverage(&mut self) {
+        let misses = self.coverage.misses();
+        for cell in needed() {
+            self.tally.test(&format!("never reached: {cell}"), !misses.contains(&cell));
+        }
+    }
+}
+
+fn print_request(case: &Case, most_rows: usize) {
+    let Case { request, expected, .. } = case;
+    println!("    operation {}, numbers {:?}", request.operation, request.numbers);
+    println!("    payloads of {} and {} bytes", request.first.len(), request.second.len());
+    println!("    output of {} words filled with {}", request.out_len, request.fill);
+    println!("    expected reply {:?}, then {} words", expected.reply, expected.output.len());
+    let words = words_of(&request.first);
+    let (header, rows) = words.split_at(words.len().min(HEADER));
+    println!("    header {header:?}");
+    for (at, row) in rows.chunks(4).enumerate().take(most_rows) {
+        println!("    from word {}: {row:?}", HEADER + 4 * at);
+    }
+    if rows.len().div_ceil(4) > most_rows {
+        println!("    and more; --only {} shows all", case.about.number);
+    }
+}
