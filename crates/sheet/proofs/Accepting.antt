@@ -6,7 +6,7 @@ use mathlib.Core.Bool.{Bool, true, false, not, _&&_, _||_, true≢false, false�
 use mathlib.Core.List.{List}
 use native.Mathlib.Omega.{arith}
 use native.Mathlib.Decide.{decLt}
-use lib.Dec.{eqb, ltb}
+use lib.Dec.{T, eqb, ltb}
 use lib.ListN.{length, length-drop}
 use borrow.Author.Tests.{ltb-true, ltb-false, eqb-true, eqb-false, not-true, not-false, lt-ltb, le-ltb, ne-eqb, eq-eqb}
 use Rattle.tables.specs.Key.{Key, sameKey, belowKey}
@@ -18,7 +18,7 @@ use Rattle.sheet.specs.declared.Node.{Node}
 use Rattle.sheet.specs.declared.Edge.{Edge}
 use Rattle.sheet.specs.Refusals.{_when_otherwise_, _orElse_, none, refuse, firstRow}
 use Rattle.sheet.specs.Rows.{headerOf, nodeAt, edgeAt, edgeTable, nodeKey, edgeKey, nodeKeyAt, edgeKeyAt}
-use Rattle.sheet.specs.Verdict.{sheetFault, headerFault, nodeFault, nodeOrder, nodeFaultAt, edgeShape, edgeFit, edgeOrder, edgeRest, edgeFaultAt, rowsVerdict, verdict}
+use Rattle.sheet.specs.Verdict.{sheetFault, headerFault, nodeFault, rowOrder, nodeFaultAt, edgeShape, edgeFit, edgeRest, edgeFaultAt, rowsVerdict, verdict}
 use Rattle.sheet.specs.Accepted.{HeaderFits, EdgeRoom, MarksFit, NodeFits, EdgeShaped, EdgeFits, Rising, NodesFormed, EdgesFormed, WellFormed, Accepted}
 use Rattle.sheet.proofs.Refusing.{line-good, line-none, else-good, else-none, refuse-good, refuse-none, then-good, then-none, rows-good, rows-none, not-eqb-false}
 
@@ -93,17 +93,22 @@ good-sheet s f = line-none _ _ _ (le-ltb (length s) 6 (omega (arith, f .whole)))
 
 -- ---- rows beside the row before: one law for nodes and edges
 
--- equal to and lower than the row before do not hold of a row that has one ..
-after-good : (i : ℕ) (a b : Key) → (ltb 0 i && sameKey a b) ≡ false → (ltb 0 i && belowKey b a) ≡ false → 0 < i → belowKey a b ≡ true
-after-good i a b e d h = below-of a b (rw (lt-ltb 0 i h) at e) (rw (lt-ltb 0 i h) at d)
+-- a row that has one before it and neither number is higher ..
+order-good : (equal lower i : ℕ) (a b : Key) → T (ltb 0 equal) → T (ltb 0 lower) → rowOrder equal lower i a b ≡ 0 → 0 < i → belowKey a b ≡ true
+unfolding rowOrder
+order-good equal lower i a b p q e h =
+    let t = line-good _ _ _ p e in
+    let u = line-good _ _ _ q (t .1) in
+    below-of a b (rw (lt-ltb 0 i h) at (t .0)) (rw (lt-ltb 0 i h) at (u .0))
 
--- .. and they do not where it is higher
-good-after : (i : ℕ) (a b : Key) → (0 < i → belowKey a b ≡ true) → ((ltb 0 i && sameKey a b) ≡ false) × ((ltb 0 i && belowKey b a) ≡ false)
-good-after i a b h = go (decLt 0 i)
+-- .. and one that is higher has neither
+good-order : (equal lower i : ℕ) (a b : Key) → (0 < i → belowKey a b ≡ true) → rowOrder equal lower i a b ≡ 0
+unfolding rowOrder
+good-order equal lower i a b h = go (decLt 0 i)
   where
-    go : Dec (0 < i) → ((ltb 0 i && sameKey a b) ≡ false) × ((ltb 0 i && belowKey b a) ≡ false)
-    go (yes l) = (rw (lt-ltb 0 i l) (ne-same a b (below-apart a b (h l))), rw (lt-ltb 0 i l) (below-asym a b (h l)))
-    go (no l) = let z = le-ltb 0 i (omega arith) in (rw z, rw z)
+    go : Dec (0 < i) → (equal when ltb 0 i && sameKey a b otherwise lower when ltb 0 i && belowKey b a otherwise 0) ≡ 0
+    go (yes l) = line-none _ _ _ (rw (lt-ltb 0 i l) (ne-same a b (below-apart a b (h l)))) (line-none _ _ _ (rw (lt-ltb 0 i l) (below-asym a b (h l))) refl)
+    go (no l) = let z = le-ltb 0 i (omega arith) in line-none _ _ _ (rw z) (line-none _ _ _ (rw z) refl)
 
 -- from each row to the next, and from the row before to each
 onward : (f : ℕ → Key) (n : ℕ) → ((i : ℕ) → i < n → 0 < i → belowKey (f (i - 1)) (f i) ≡ true) → Rising f n
@@ -144,18 +149,14 @@ good-node h r f =
     plain false e = rw (e, eq-eqb _ _ (f .variant (eqb-false _ _ e)))
 
 node-row : (s : List ℕ) (h : Header) (i : ℕ) → nodeFaultAt s h i ≡ 0 → NodeFits h (nodeAt s i) × (0 < i → belowKey (nodeKeyAt s (i - 1)) (nodeKeyAt s i) ≡ true)
-unfolding nodeFaultAt nodeOrder
+unfolding nodeFaultAt
 node-row s h i e =
     let g = else-good _ _ e in
-    let t9 = line-good _ _ _ tt (g .1) in
-    let t10 = line-good _ _ _ tt (t9 .1) in
-    (node-good _ _ (g .0), after-good i (nodeKeyAt s (i - 1)) (nodeKeyAt s i) (t9 .0) (t10 .0))
+    (node-good _ _ (g .0), order-good 9 10 i _ _ tt tt (g .1))
 
 row-node : (s : List ℕ) (h : Header) (i : ℕ) → NodeFits h (nodeAt s i) → (0 < i → belowKey (nodeKeyAt s (i - 1)) (nodeKeyAt s i) ≡ true) → nodeFaultAt s h i ≡ 0
-unfolding nodeFaultAt nodeOrder
-row-node s h i f up =
-    let a = good-after i (nodeKeyAt s (i - 1)) (nodeKeyAt s i) up in
-    else-none _ _ (good-node _ _ f) ∙ line-none _ _ _ (a .0) (line-none _ _ _ (a .1) refl)
+unfolding nodeFaultAt
+row-node s h i f up = else-none _ _ (good-node _ _ f) ∙ good-order 9 10 i (nodeKeyAt s (i - 1)) (nodeKeyAt s i) up
 
 -- ---- edge rows
 
@@ -208,20 +209,17 @@ good-fit h e a b f =
 
 edge-row : (s t : List ℕ) (h : Header) (j : ℕ) → edgeFaultAt s t h j ≡ 0
     → EdgeShaped h (edgeAt t j) × EdgeFits h (edgeAt t j) (nodeAt s (edgeAt t j .from)) (nodeAt s (edgeAt t j .to)) × (0 < j → belowKey (edgeKeyAt t (j - 1)) (edgeKeyAt t j) ≡ true)
-unfolding edgeFaultAt edgeRest edgeOrder
+unfolding edgeFaultAt edgeRest
 edge-row s t h j e =
     let g = else-good _ _ e in
     let f = else-good _ _ (g .1) in
-    let t16 = line-good _ _ _ tt (f .1) in
-    let t17 = line-good _ _ _ tt (t16 .1) in
-    (shape-good _ _ (g .0), fit-good _ _ _ _ (f .0), after-good j (edgeKeyAt t (j - 1)) (edgeKeyAt t j) (t16 .0) (t17 .0))
+    (shape-good _ _ (g .0), fit-good _ _ _ _ (f .0), order-good 16 17 j _ _ tt tt (f .1))
 
 row-edge : (s t : List ℕ) (h : Header) (j : ℕ) → EdgeShaped h (edgeAt t j) → EdgeFits h (edgeAt t j) (nodeAt s (edgeAt t j .from)) (nodeAt s (edgeAt t j .to))
     → (0 < j → belowKey (edgeKeyAt t (j - 1)) (edgeKeyAt t j) ≡ true) → edgeFaultAt s t h j ≡ 0
-unfolding edgeFaultAt edgeRest edgeOrder
+unfolding edgeFaultAt edgeRest
 row-edge s t h j p f up =
-    let a = good-after j (edgeKeyAt t (j - 1)) (edgeKeyAt t j) up in
-    else-none _ _ (good-shape _ _ p) ∙ (else-none _ _ (good-fit _ _ _ _ f) ∙ line-none _ _ _ (a .0) (line-none _ _ _ (a .1) refl))
+    else-none _ _ (good-shape _ _ p) ∙ (else-none _ _ (good-fit _ _ _ _ f) ∙ good-order 16 17 j (edgeKeyAt t (j - 1)) (edgeKeyAt t j) up)
 
 -- ---- the whole sheet
 

@@ -4,7 +4,7 @@ use Prim.Native.Nat.{ℕ, _+_, _-_, _*_}
 use mathlib.Core.List.{List}
 use mathlib.Core.Bool.{Bool, _&&_, _||_, not}
 use lib.ListN.{length, drop}
-use Rattle.tables.specs.Key.{sameKey, belowKey}
+use Rattle.tables.specs.Key.{Key, sameKey, belowKey}
 use Rattle.tables.specs.Marks.{marksFit, within}
 use Rattle.sheet.specs.declared.Refusal.{Refusal}
 use Rattle.sheet.specs.declared.Header.{Header}
@@ -37,12 +37,16 @@ nodeFault h r =
     8 when not (marksFit (h .offices) (r .offices)) otherwise
     0
 
--- node row i beside the row before it. 9 / 10 node identity equal to / lower than the row before
-unfoldable pub nodeOrder : ℕ → Node → Node → ℕ
-nodeOrder i before r =
-    9 when 0 below i && sameKey (nodeKey before) (nodeKey r) otherwise
-    10 when 0 below i && belowKey (nodeKey r) (nodeKey before) otherwise
+-- row i beside the row before it: one number where both have the same key, another where this one's is lower; row 0 has none before it
+unfoldable pub rowOrder : ℕ → ℕ → ℕ → Key → Key → ℕ
+rowOrder equal lower i before key =
+    equal when 0 below i && sameKey before key otherwise
+    lower when 0 below i && belowKey key before otherwise
     0
+
+-- 9 / 10 node identity equal to / lower than the row before
+abbrev pub nodeOrder : ℕ → Node → Node → ℕ
+nodeOrder i before r = rowOrder 9 10 i (nodeKey before) (nodeKey r)
 
 -- an edge row by itself. 11 edge kind; 12 an end not below n
 unfoldable pub edgeShape : Header → Edge → ℕ
@@ -59,12 +63,9 @@ edgeFit h e a b =
     15 when not (marksFit (h .offices) (e .offices) && (within (e .offices) (a .offices) && within (e .offices) (b .offices))) otherwise
     0
 
--- edge row j beside the row before it. 16 / 17 edge equal to / lower than the row before
-unfoldable pub edgeOrder : ℕ → Edge → Edge → ℕ
-edgeOrder j before e =
-    16 when 0 below j && sameKey (edgeKey before) (edgeKey e) otherwise
-    17 when 0 below j && belowKey (edgeKey e) (edgeKey before) otherwise
-    0
+-- 16 / 17 edge equal to / lower than the row before
+abbrev pub edgeOrder : ℕ → Edge → Edge → ℕ
+edgeOrder j before e = rowOrder 16 17 j (edgeKey before) (edgeKey e)
 
 -- 6 to 10 of node row i
 unfoldable pub nodeFaultAt : List ℕ → Header → ℕ → ℕ

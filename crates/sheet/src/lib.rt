@@ -4,7 +4,7 @@ ghost use Prim.Native.Nat.{ℕ, _+_, _*_, _-_, _<_, _≤_};
 ghost use lib.ListN.{length};
 ghost use Rattle.tables.specs.Key.{sameKey, belowKey};
 ghost use Rattle.sheet.specs.Limits.{headerWords, nodeWords, edgesFrom};
-ghost use Rattle.sheet.specs.Rows.{headerOf, nodeAt, edgeAt, nodeKey, edgeKey, nodeKeyAt};
+ghost use Rattle.sheet.specs.Rows.{fourAt, headerOf, nodeAt, edgeAt, nodeKey, edgeKey, nodeKeyAt};
 ghost use Rattle.sheet.specs.Accepted.{EdgeRoom, NodesFormed};
 ghost use Rattle.sheet.specs.Found.{PlaceIs, FoundIs};
 
@@ -43,6 +43,13 @@ pub struct Header {
     pub edgeoffset: u32,
 }
 
+struct Four {
+    first: u32,
+    second: u32,
+    third: u32,
+    fourth: u32,
+}
+
 // A node row. Its class is what the document calls its type, which is a word of the language here.
 pub struct Node {
     pub class: u32,
@@ -78,17 +85,30 @@ pub fn header_of(sheet: &[u32]) -> Header
     }
 }
 
+// The four words from `at` on.
+fn four_at(words: &[u32], at: usize) -> Four
+    requires { ⌜ at + 4 ≤ length (now words) ⌝ }
+    ensures { λ r. ⌜ r ≡ fourAt (now (words .entry)) at ⌝ }
+{
+    Four {
+        first: words[at],
+        second: words[at + 1],
+        third: words[at + 2],
+        fourth: words[at + 3],
+    }
+}
+
 // Node row i.
 pub fn node_at(sheet: &[u32], i: usize) -> Node
     requires { ⌜ edgesFrom i + nodeWords ≤ length (now sheet) ⌝ }
     ensures { λ r. ⌜ r ≡ nodeAt (now (sheet .entry)) i ⌝ }
 {
-    let at = HEADER_WORDS + NODE_WORDS * i;
+    let w = four_at(sheet, HEADER_WORDS + NODE_WORDS * i);
     Node {
-        class: sheet[at],
-        number: sheet[at + 1],
-        variant: sheet[at + 2],
-        offices: sheet[at + 3],
+        class: w.first,
+        number: w.second,
+        variant: w.third,
+        offices: w.fourth,
     }
 }
 
@@ -97,12 +117,12 @@ pub fn edge_at(edges: &[u32], h: Header, j: usize) -> Edge
     requires { ⌜ EdgeRoom h (now edges) × (j < h .edges) ⌝ }
     ensures { λ r. ⌜ r ≡ edgeAt (now (edges .entry)) j ⌝ }
 {
-    let at = EDGE_WORDS * j;
+    let w = four_at(edges, EDGE_WORDS * j);
     Edge {
-        kind: edges[at],
-        from: edges[at + 1],
-        to: edges[at + 2],
-        offices: edges[at + 3],
+        kind: w.first,
+        from: w.second,
+        to: w.third,
+        offices: w.fourth,
     }
 }
 

@@ -14,9 +14,11 @@ ghost use Prim.Native.Nat.{ℕ, _<_, _≤_};
 ghost use lib.ListN.{length};
 ghost use Rattle.tables.specs.Marks.{marksFit, within};
 ghost use Rattle.sheet.specs.Limits.{maxOffices};
-ghost use Rattle.sheet.specs.Refusals.{_orElse_, firstRow};
+ghost use mathlib.Core.Bool.{_&&_};
+ghost use Rattle.sheet.specs.Refusals.{_below_, _when_otherwise_, _orElse_, firstRow};
 ghost use Rattle.sheet.specs.Rows.{endsFit};
 ghost use Rattle.sheet.specs.Verdict.{headerFault, sheetFault, nodeFault, nodeOrder, nodeFaultAt, edgeShape, edgeFit, edgeOrder, edgeRest, edgeFaultAt, rowsVerdict, verdict};
+ghost use Rattle.verdict.specs.Each.{countOf, faultAt};
 ghost use Rattle.sheet.specs.Accepted.{HeaderFits, EdgeRoom, EdgeShaped};
 
 // Whether the marks are a sum of marks of offices within the count, not 0.
@@ -104,19 +106,6 @@ fn node_fault(h: Header, r: Node) -> u32
     0
 }
 
-// 9 and 10, of node row i beside the row before it.
-fn node_order(i: usize, before: Node, r: Node) -> u32
-    ensures { λ k. ⌜ k ≡ nodeOrder i before r ⌝ }
-{
-    if (0 < i) & sheet::same_node(before, r) {
-        return 9;
-    }
-    if (0 < i) & sheet::below_node(r, before) {
-        return 10;
-    }
-    0
-}
-
 // 11 and 12, of an edge row by itself.
 fn edge_shape(h: Header, e: Edge) -> u32
     ensures { λ k. ⌜ k ≡ edgeShape h e ⌝ }
@@ -148,17 +137,43 @@ fn edge_fit(h: Header, e: Edge, a: Node, b: Node) -> u32
     0
 }
 
+// Row i beside the row before it, whose keys are the same, or of which this one's is lower.
+fn row_order(equal: u32, lower: u32, i: usize, same: bool, less: bool) -> u32
+    ensures { λ k. ⌜ k ≡ (equal when 0 below i && same otherwise lower when 0 below i && less otherwise 0) ⌝ }
+{
+    if (0 < i) & same {
+        return equal;
+    }
+    if (0 < i) & less {
+        return lower;
+    }
+    0
+}
+
+// 9 and 10, of node row i beside the row before it.
+fn node_order(i: usize, before: Node, r: Node) -> u32
+    ensures { λ k. ⌜ k ≡ nodeOrder i before r ⌝ }
+{
+    row_order(
+        9,
+        10,
+        i,
+        sheet::same_node(before, r),
+        sheet::below_node(r, before),
+    )
+}
+
 // 16 and 17, of edge row j beside the row before it.
 fn edge_order(j: usize, before: Edge, e: Edge) -> u32
     ensures { λ k. ⌜ k ≡ edgeOrder j before e ⌝ }
 {
-    if (0 < j) & sheet::same_edge(before, e) {
-        return 16;
-    }
-    if (0 < j) & sheet::below_edge(e, before) {
-        return 17;
-    }
-    0
+    row_order(
+        16,
+        17,
+        j,
+        sheet::same_edge(before, e),
+        sheet::below_edge(e, before),
+    )
 }
 
 // 6 to 10, of node row i.
@@ -197,15 +212,33 @@ fn edge_fault_at(sheet: &[u32], edges: &[u32], h: Header, j: usize) -> u32
     edge_rest(sheet, edges, h, j, e)
 }
 
-// The first node row that has a number, of the sheet that the caller counts as `place`.
-fn check_nodes(place: u32, sheet: &[u32], h: Header) -> Refusal
-    requires { ⌜ HeaderFits h (length (now sheet)) ⌝ }
-    ensures { λ r. ⌜ r ≡ firstRow place (nodeFaultAt (now (sheet .entry)) h) 0 (h .nodes) ⌝ }
+// How many rows a table has, 1 of nodes or 2 of edges.
+fn count_of(h: Header, table: u32) -> u32
+    ensures { λ r. ⌜ r ≡ countOf h table ⌝ }
 {
-    let n = h.nodes;
+    if table == 1 { h.nodes } else { h.edges }
+}
+
+// 6 to 10 of a node row, 11 to 17 of an edge row.
+fn fault_at(sheet: &[u32], edges: &[u32], h: Header, table: u32, i: usize) -> u32
+    requires { ⌜ HeaderFits h (length (now sheet)) × EdgeRoom h (now edges) × (i < countOf h table) ⌝ }
+    ensures { λ k. ⌜ k ≡ faultAt (now (sheet .entry)) (now (edges .entry)) h table i ⌝ }
+{
+    if table == 1 {
+        return node_fault_at(sheet, h, i);
+    }
+    edge_fault_at(sheet, edges, h, i)
+}
+
+// The first row of a table that has a number, of the sheet that the caller counts as `place`.
+fn check_table(place: u32, sheet: &[u32], edges: &[u32], h: Header, table: u32) -> Refusal
+    requires { ⌜ HeaderFits h (length (now sheet)) × EdgeRoom h (now edges) ⌝ }
+    ensures { λ r. ⌜ r ≡ firstRow place (faultAt (now (sheet .entry)) (now (edges .entry)) h table) 0 (countOf h table) ⌝ }
+{
+    let n = count_of(h, table);
     let mut i: u32 = 0;
     while i < n {
-        let k = node_fault_at(sheet, h, i as usize);
+        let k = fault_at(sheet, edges, h, table, i as usize);
         if k != 0 {
             return Refusal {
                 number: k,
@@ -222,43 +255,18 @@ fn check_nodes(place: u32, sheet: &[u32], h: Header) -> Refusal
     }
 }
 
-// The first row of the edge table that has a number.
-fn check_edges(place: u32, sheet: &[u32], edges: &[u32], h: Header) -> Refusal
-    requires { ⌜ HeaderFits h (length (now sheet)) × EdgeRoom h (now edges) ⌝ }
-    ensures { λ r. ⌜ r ≡ firstRow place (edgeFaultAt (now (sheet .entry)) (now (edges .entry)) h) 0 (h .edges) ⌝ }
-{
-    let e = h.edges;
-    let mut j: u32 = 0;
-    while j < e {
-        let k = edge_fault_at(sheet, edges, h, j as usize);
-        if k != 0 {
-            return Refusal {
-                number: k,
-                sheet: place,
-                row: j,
-            };
-        }
-        j += 1;
-    }
-    Refusal {
-        number: 0,
-        sheet: 0,
-        row: 0,
-    }
-}
-
 // 6 to 17: rows one at a time, nodes first.
 fn check_rows(place: u32, sheet: &[u32], h: Header) -> Refusal
     requires { ⌜ HeaderFits h (length (now sheet)) ⌝ }
     ensures { λ r. ⌜ r ≡ rowsVerdict place (now (sheet .entry)) h ⌝ }
 {
-    let v = check_nodes(place, sheet, h);
+    let from = h.edgeoffset as usize;
+    let edges = &sheet[from..];
+    let v = check_table(place, sheet, edges, h, 1);
     if v.number != 0 {
         return v;
     }
-    let from = h.edgeoffset as usize;
-    let edges = &sheet[from..];
-    check_edges(place, sheet, edges, h)
+    check_table(place, sheet, edges, h, 2)
 }
 
 // The verdict on any words, as the sheet that the caller counts as `place`: the first number of 1 to 17 that applies, or none.

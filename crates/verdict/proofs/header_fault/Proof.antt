@@ -1,66 +1,51 @@
 -- `verdict::header_fault` meets its contract: each early return is a line of `headerFault`.
 -- Assumes nothing.
+use borrow.Author.Needs.{needs}
 use Rattle.sheet.proofs.Refusing.{lines}
 use Rattle.sheet.specs.Verdict.{headerFault}
-use borrow.Author.Needs.{needs}
 use Rattle.verdict.proofs.header_fault.Statement.{statement}
 use Rattle.verdict.proofs.header_fault.Tie as tie
-use Rattle.verdict.proofs.header_fault.Reads as reads
-use Rattle.verdict.proofs.header_fault.Lts as lts
 
--- src/lib.rt:59:13
 cast-n : tie.Need-cast-n
 cast-n c = search needs
 
--- src/lib.rt:60:13
 cast-e : tie.Need-cast-e
 cast-e c = search needs
 
--- src/lib.rt:61:17
 cast-start : tie.Need-cast-start
 cast-start c = search needs
 
--- src/lib.rt:62:16
 cast-from : tie.Need-cast-from
 cast-from c = search needs
 
--- src/lib.rt:63:37
 mul-edges-from : tie.Need-mul-edges-from
 mul-edges-from c = search needs
 
--- src/lib.rt:63:22
 add-edges-from : tie.Need-add-edges-from
 add-edges-from c = search needs
 
--- src/lib.rt:65:9
 returns : tie.Need-returns
 unfolding headerFault
 returns c = search lines depth 10
 
--- src/lib.rt:68:9
 returns-2 : tie.Need-returns-2
 unfolding headerFault
 returns-2 c = search lines depth 10
 
--- src/lib.rt:71:9
 returns-3 : tie.Need-returns-3
 unfolding headerFault
 returns-3 c = search lines depth 10
 
--- src/lib.rt:73:83
 mul-if4 : tie.Need-mul-if4
 mul-if4 c = search needs
 
--- src/lib.rt:73:70
 add-if4 : tie.Need-add-if4
 add-if4 c = search needs
 
--- src/lib.rt:74:9
 returns-4 : tie.Need-returns-4
 unfolding headerFault
 returns-4 c = search lines depth 10
 
--- src/lib.rt:56:1
 returns-5 : tie.Need-returns-5
 unfolding headerFault
 returns-5 c = search lines depth 10
