@@ -4,3 +4,4 @@ pub mod Accepting
 pub mod Sizes
 pub mod Naming
 pub mod Places
+pub mod Whole

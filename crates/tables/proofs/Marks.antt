@@ -1,14 +1,16 @@
 -- What office marks say, whatever the number of offices.
 -- Assumes nothing.
 use Prim.Native.Nat.{ℕ, zero, suc, _+_, _*_, _/_, _%_, _^_, _-_, _≤_, _<_, min}
-use mathlib.Core.Path.{_≡_, refl, sym, ap, _∙_}
+use mathlib.Core.Path.{_≡_, refl, sym, ap, subst, _∙_}
 use mathlib.Core.Bool.{Bool, true, false, true≢false}
 use native.Mathlib.Omega.{arith}
 use lib.Dec.{eqb}
-use lib.Pow.{shr-shr, shr-le}
+use native.Mathlib.Decide.{decLt}
+use native.Mathlib.Nat.{add-mul-div-left, add-mul-mod-self-left, div-eq-of-lt, mul-assoc, mul-comm, mul-suc, mul-le-mul-left, pow-suc, zero-add}
+use lib.Pow.{shr-shr, shr-le, pow-add, pow-pos}
 use native.Mathlib.Numerals.{one-add}
 use lib.Bits.{bitAnd, and-shr, and-mod, and-le-r, and-step, and-zero-l}
-use borrow.Author.Tests.{eqb-true, eq-eqb}
+use borrow.Author.Tests.{eqb-true, eqb-false, eq-eqb}
 use Rattle.tables.specs.Marks.{marked, within}
 
 -- bit i of the first is at most bit i of the second
@@ -59,3 +61,60 @@ covered (suc c) m p l h = halves m p (covered c (m / 2) (p / 2) (omega (arith, l
 -- .. and where that is so, they do
 pub marked-within : (m p : ℕ) → ((k : ℕ) → marked m k ≡ true → marked p k ≡ true) → within m p ≡ true
 marked-within m p h = eq-eqb (bitAnd m p) m (covered m m p (omega arith) h)
+
+-- two sums of marks of n offices that bear the same marks are the same
+pub marks-same : (n m p : ℕ) → m < 2 ^ n → p < 2 ^ n → ((i : ℕ) → i < n → marked m (suc i) ≡ marked p (suc i)) → m ≡ p
+marks-same zero m p a b h = omega arith
+marks-same (suc n) m p a b h =
+    let above : m / 2 ≡ p / 2 = marks-same n (m / 2) (p / 2) (omega arith) (omega arith) (λ i l. sym (half-marked m i) ∙ h (suc i) (omega arith) ∙ half-marked p i) in
+    let low : m % 2 ≡ p % 2 = lowest (h 0 (omega arith)) in
+    omega arith
+  where
+    lowest : eqb (m / 1 % 2) 1 ≡ eqb (p / 1 % 2) 1 → m % 2 ≡ p % 2
+    lowest e = go (eqb (m / 1 % 2) 1) refl
+      where
+        go : (b : Bool) → eqb (m / 1 % 2) 1 ≡ b → m % 2 ≡ p % 2
+        go true d = let x = eqb-true (m / 1 % 2) 1 d in let y = eqb-true (p / 1 % 2) 1 (sym e ∙ d) in omega arith
+        go false d = let x = eqb-false (m / 1 % 2) 1 d in let y = eqb-false (p / 1 % 2) 1 (sym e ∙ d) in even (m % 2) (p % 2) (omega arith) (omega arith) (λ q. x (omega arith)) (λ q. y (omega arith))
+          where
+            even : (u v : ℕ) → u < 2 → v < 2 → (u ≡ 1 → ⊥) → (v ≡ 1 → ⊥) → u ≡ v
+            even zero zero g h x y = refl
+            even (suc zero) v g h x y = absurd (x refl)
+            even (suc (suc u)) v g h x y = absurd (omega (arith, g))
+            even zero (suc zero) g h x y = absurd (y refl)
+            even zero (suc (suc v)) g h x y = absurd (omega (arith, h))
+
+-- ---- marks put side by side: the second sum's offices are counted after the first's n
+
+marked-first : (n x y i : ℕ) → i < n → marked (x + 2 ^ n * y) (suc i) ≡ marked x (suc i)
+marked-first n x y i h =
+    let e : n ≡ i + suc (n - i - 1) = omega arith in
+    let p : 2 ^ n ≡ 2 ^ i * (2 ^ (n - i - 1) * 2) = ap (λ (k : ℕ). 2 ^ k) e ∙ pow-add 2 i (suc (n - i - 1)) ∙ ap (λ (k : ℕ). 2 ^ i * k) (pow-suc 2 (n - i - 1)) in
+    let q : x + 2 ^ n * y ≡ x + 2 ^ i * (2 ^ (n - i - 1) * 2 * y) = ap (λ (k : ℕ). x + k * y) p ∙ ap (λ (k : ℕ). x + k) (mul-assoc (2 ^ i) (2 ^ (n - i - 1) * 2) y) in
+    let d : (x + 2 ^ n * y) / 2 ^ i ≡ x / 2 ^ i + 2 ^ (n - i - 1) * 2 * y = ap (λ (k : ℕ). k / 2 ^ i) q ∙ add-mul-div-left x (2 ^ (n - i - 1) * 2 * y) (pow-pos i) in
+    let m : 2 ^ (n - i - 1) * 2 * y ≡ 2 * (2 ^ (n - i - 1) * y) = ap (λ (k : ℕ). k * y) (mul-comm (2 ^ (n - i - 1)) 2) ∙ mul-assoc 2 (2 ^ (n - i - 1)) y in
+    let r : (x / 2 ^ i + 2 * (2 ^ (n - i - 1) * y)) % 2 ≡ x / 2 ^ i % 2 = add-mul-mod-self-left (x / 2 ^ i) 2 (2 ^ (n - i - 1) * y) in
+    ap (λ (k : ℕ). eqb (k % 2) 1) (d ∙ ap (λ (k : ℕ). x / 2 ^ i + k) m) ∙ ap (λ (k : ℕ). eqb k 1) r
+
+marked-second : (n x y i : ℕ) → x < 2 ^ n → marked (x + 2 ^ n * y) (suc (n + i)) ≡ marked y (suc i)
+marked-second n x y i h =
+    let z : x / 2 ^ n ≡ 0 = div-eq-of-lt h in
+    let d : (x + 2 ^ n * y) / 2 ^ n ≡ y = add-mul-div-left x y (pow-pos n) ∙ ap (λ (k : ℕ). k + y) z ∙ zero-add y in
+    ap (λ (k : ℕ). eqb (k % 2) 1) (sym (shr-shr (x + 2 ^ n * y) n i) ∙ ap (λ (k : ℕ). k / 2 ^ i) d)
+
+both-fit : (n m x y : ℕ) → x < 2 ^ n → y < 2 ^ m → x + 2 ^ n * y < 2 ^ (n + m)
+both-fit n m x y g h =
+    let p : 2 ^ (n + m) ≡ 2 ^ n * 2 ^ m = pow-add 2 n m in
+    let q : 2 ^ n * suc y ≤ 2 ^ n * 2 ^ m = mul-le-mul-left (2 ^ n) h in
+    let r : 2 ^ n * suc y ≡ 2 ^ n * y + 2 ^ n = mul-suc (2 ^ n) y in
+    omega arith
+
+pub marks-joined : (n m x y z : ℕ) → x < 2 ^ n → y < 2 ^ m → z < 2 ^ (n + m) → ((i : ℕ) → i < n → marked z (suc i) ≡ marked x (suc i))
+    → ((i : ℕ) → i < m → marked z (suc (n + i)) ≡ marked y (suc i)) → z ≡ x + 2 ^ n * y
+marks-joined n m x y z a b c f g = marks-same (n + m) z (x + 2 ^ n * y) c (both-fit n m x y a b) (λ i l. go i l (decLt i n))
+  where
+    go : (i : ℕ) → i < n + m → Dec (i < n) → marked z (suc i) ≡ marked (x + 2 ^ n * y) (suc i)
+    go i l (yes h) = f i h ∙ sym (marked-first n x y i h)
+    go i l (no h) =
+        let e : n + (i - n) ≡ i = omega arith in
+        subst (λ (k : ℕ). marked z (suc k) ≡ marked (x + 2 ^ n * y) (suc k)) e (g (i - n) (omega arith) ∙ sym (marked-second n x y (i - n) a))
