@@ -84,7 +84,7 @@ module _ (s : List ℕ) (w : Accepted s) (o : ℕ) (side : Side) (p d f : ℕ) (
       let r = in-leads v a cs (and-right (member (seenAt s o) p a) _ e) in
       (both (and-left (among a D) _ (every-edge s w o (names D W) named _ (and-left (member (seenAt s o) p a) _ e))) (r .0), r .1)
 
-longer : (xs ys : List ℕ) → length ys < length xs → fewer xs ys ≡ false
+pub longer : (xs ys : List ℕ) → length ys < length xs → fewer xs ys ≡ false
 longer xs ys h = rw (le-ltb (length xs) (length ys) (omega arith), ne-eqb (length xs) (length ys) (λ e. omega arith))
 
 -- the words are a path of k categories, and no path of at most k comes before them

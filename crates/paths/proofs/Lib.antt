@@ -1,2 +1,5 @@
 pub mod Tests
 pub mod Ways
+pub mod Distances
+pub mod Rounds
+pub mod Trails

@@ -1,1 +1,3 @@
 pub mod Leads
+pub mod Steps
+pub mod Best
