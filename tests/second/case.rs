@@ -1,22 +1,30 @@
-//! What is put to the trial, case by case. A case follows from the seed and
-//! its number alone.
+//! What is put to the trial, case by case. A case of a check follows from the
+//! seed and its number alone; the questions come after the checks, so their
+//! numbers follow from how many of those there are.
 
+use crate::answer;
 use crate::coverage::{self, Cell, CHECK_BYTES, CHECK_WORDS, UNKNOWN};
 use crate::damage;
+use crate::dress::dress;
+use crate::goals;
 use crate::judge::{judge_bytes, judge_words, Verdict};
 use crate::make;
 use crate::named::{self, Named};
+use crate::questions::Questions;
 use crate::random::Random;
 use crate::scramble;
 use crate::sheet::{bytes_of, words_of};
-use crate::trial::{Expected, Request, MOST_OUTPUT, MOST_PAYLOAD};
+use crate::trial::{Expected, Request, MOST_PAYLOAD};
 
 /// What is remembered of a case while its reply is on the way.
 pub struct About {
     pub number: usize,
     pub kind: &'static str,
     pub name: String,
+    pub operation: u32,
     pub cell: Cell,
+    /// What a question meets of its coverage.
+    pub goals: Vec<String>,
     /// The judge against what a named case says, or against the way a sheet
     /// was made: a slip of this program, not of the trial.
     pub own_fault: Option<String>,
@@ -38,13 +46,14 @@ pub struct Case {
     pub expected: Expected,
 }
 
-/// First the named cases, then one aimed at each cell of the coverage table,
-/// then the random ones.
+/// First the checks: the named cases, then one aimed at each cell of the
+/// coverage table, then the random ones. Then the questions.
 pub struct Plan {
     seed: u64,
     named: Vec<Named>,
     targets: Vec<Cell>,
     random: usize,
+    questions: Questions,
 }
 
 type Maker = fn(&mut Random) -> Vec<u8>;
@@ -69,19 +78,28 @@ fn valid(random: &mut Random) -> Vec<u8> {
 }
 
 impl Plan {
-    pub fn new(seed: u64, random: usize) -> Plan {
+    pub fn new(seed: u64, random: usize, questions: usize) -> Plan {
         let targets = coverage::needed()
             .into_iter()
             .filter(|cell| cell.number != 0 && cell.number != UNKNOWN)
             .collect();
-        Plan { seed, named: named::all(), targets, random }
+        let questions = Questions::new(seed, questions);
+        Plan { seed, named: named::all(), targets, random, questions }
     }
 
-    pub fn len(&self) -> usize {
+    /// How many cases there are of the checks alone.
+    pub fn checks(&self) -> usize {
         self.named.len() + self.targets.len() + self.random
     }
 
+    pub fn len(&self) -> usize {
+        self.checks() + self.questions.len()
+    }
+
     pub fn case(&self, number: usize) -> Case {
+        if number >= self.checks() {
+            return self.question_case(number);
+        }
         let mut random = Random::for_case(self.seed, number as u64);
         let past_named = number.checked_sub(self.named.len());
         match past_named {
@@ -102,6 +120,14 @@ impl Plan {
             let fault = format!("the document says {:?}, the judge {judge_says:?}", named.says);
             case.about.own_fault = Some(fault);
         }
+        case
+    }
+
+    fn question_case(&self, number: usize) -> Case {
+        let (kind, name, request, own_fault) = self.questions.case(number - self.checks());
+        let mut case = judged(number, kind, name, request);
+        case.about.goals = goals::met(&case.request, &case.expected);
+        case.about.own_fault = own_fault;
         case
     }
 
@@ -148,31 +174,17 @@ fn loose_case(random: &mut Random, number: usize, kind: &'static str, make: Make
 fn judged(number: usize, kind: &'static str, name: String, request: Request) -> Case {
     let expected = expect(&request);
     let cell = coverage::cell(&request, &expected);
-    Case { about: About { number, kind, name, cell, own_fault: None }, request, expected }
-}
-
-/// Everything about a request that the operation must not look at.
-fn dress(random: &mut Random, operation: u32, first: Vec<u8>) -> Request {
-    let numbers = [0; 6].map(|_: u32| random.odd_word());
-    let out_len = match random.below(1000) {
-        0 => MOST_OUTPUT,
-        1..=20 => random.between(13, 600),
-        21..=200 => 0,
-        _ => random.between(1, 12),
-    };
-    let second_len = match random.below(1000) {
-        0 => MOST_PAYLOAD,
-        1..=100 => random.between(1, 70),
-        _ => 0,
-    };
-    let second = (0..second_len).map(|_| random.word() as u8).collect();
-    let fill = random.odd_word();
-    Request { operation, numbers, first, second, out_len, fill }
+    let operation = request.operation;
+    let about = About { number, kind, name, operation, cell, goals: Vec::new(), own_fault: None };
+    Case { about, request, expected }
 }
 
 /// The whole reply, word for word. Neither check writes, so the output keeps
 /// its fill.
 pub fn expect(request: &Request) -> Expected {
+    if answer::is_question(request.operation) {
+        return answer::expect(request);
+    }
     let verdict = match request.operation {
         CHECK_WORDS => judge_words(&words_of(&request.first)),
         CHECK_BYTES => judge_bytes(&request.first),

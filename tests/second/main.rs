@@ -2,21 +2,42 @@
 //! documents alone: it judges sheets by itself, puts them to the trial
 //! program and compares every word that comes back.
 //!
-//! second [--seed N] [--cases N] [--only K] [--patience SECONDS] -- COMMAND ARGS..
+//! second [--seed N] [--cases N] [--questions N] [--only K] [--patience SECONDS]
+//!     -- COMMAND ARGS..
 //! second --self-test
 
+mod answer;
+mod bits;
 mod case;
+mod cast;
+mod closure;
 mod coverage;
 mod damage;
+mod desk;
+mod draft;
+mod dress;
+mod goals;
+mod inquiry;
 mod judge;
+mod large;
+mod lists;
+mod longest;
 mod make;
 mod named;
+mod named_paths;
+mod named_questions;
+mod named_refusals;
 mod named_rows;
+mod office;
 mod options;
+mod questions;
 mod random;
 mod report;
+mod scene;
 mod scramble;
 mod selftest;
+mod selftest_paths;
+mod selftest_questions;
 mod sheet;
 mod sister;
 mod tally;
@@ -46,7 +67,7 @@ fn main() {
 
 fn run(options: &Options) -> Tally {
     println!("seed {}", options.seed);
-    let plan = Arc::new(Plan::new(options.seed, options.cases));
+    let plan = Arc::new(Plan::new(options.seed, options.cases, options.questions));
     let numbers = match options.only {
         Some(only) if only < plan.len() => only..only + 1,
         Some(only) => {

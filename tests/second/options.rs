@@ -1,12 +1,15 @@
 //! The command line.
 
 pub const USAGE: &str = "usage:
-  second [--seed N] [--cases N] [--only K] [--patience SECONDS] -- COMMAND ARGS..
+  second [--seed N] [--cases N] [--questions N] [--only K] [--patience SECONDS]
+      -- COMMAND ARGS..
   second --self-test";
 
 pub struct Options {
     pub seed: u64,
+    /// Random cases of the checks, and of the questions.
     pub cases: usize,
+    pub questions: usize,
     pub only: Option<usize>,
     /// Seconds without a reply after which the trial is given up.
     pub patience: u64,
@@ -19,6 +22,7 @@ impl Options {
         let mut options = Options {
             seed: 20_240_611,
             cases: 24_000,
+            questions: 24_000,
             only: None,
             patience: 300,
             self_test: false,
@@ -28,6 +32,7 @@ impl Options {
             match word.as_str() {
                 "--seed" => options.seed = number(&word, words.next())?,
                 "--cases" => options.cases = number(&word, words.next())?,
+                "--questions" => options.questions = number(&word, words.next())?,
                 "--only" => options.only = Some(number(&word, words.next())?),
                 "--patience" => options.patience = number(&word, words.next())?,
                 "--self-test" => options.self_test = true,

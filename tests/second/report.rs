@@ -6,6 +6,7 @@ use std::sync::Arc;
 
 use crate::case::{About, Case, Plan};
 use crate::coverage::{needed, Coverage, UNKNOWN};
+use crate::goals::{self, Goals};
 use crate::sheet::{words_of, HEADER};
 use crate::tally::Tally;
 
@@ -20,8 +21,10 @@ pub struct Report {
     tally: Tally,
     shown: usize,
     kinds: BTreeMap<&'static str, usize>,
+    operations: BTreeMap<u32, usize>,
     outcomes: BTreeMap<u32, usize>,
     coverage: Coverage,
+    goals: Goals,
 }
 
 impl Report {
@@ -34,16 +37,20 @@ impl Report {
             tally: Tally::default(),
             shown: 0,
             kinds: BTreeMap::new(),
+            operations: BTreeMap::new(),
             outcomes: BTreeMap::new(),
             coverage: Coverage::default(),
+            goals: Goals::default(),
         }
     }
 
     pub fn answered(&mut self, about: About, mut differences: Vec<String>) {
         self.answered += 1;
         *self.kinds.entry(about.kind).or_insert(0) += 1;
+        *self.operations.entry(about.operation).or_insert(0) += 1;
         *self.outcomes.entry(about.cell.number).or_insert(0) += 1;
         self.coverage.add(about.cell);
+        about.goals.iter().for_each(|goal| self.goals.add(goal));
         differences.extend(about.own_fault.clone());
         let passed = differences.is_empty();
         self.tally.count(passed);
@@ -107,18 +114,27 @@ impl Report {
         for (kind, count) in &self.kinds {
             println!("  {kind}: {count}");
         }
+        println!("cases by operation:");
+        for (operation, count) in &self.operations {
+            println!("  {operation}: {count}");
+        }
         println!("cases by expected outcome:");
-        for number in (0..=17).chain([33, UNKNOWN]) {
+        for number in (0..=17).chain(20..=23).chain([25, 26, 27, 33, UNKNOWN]) {
             let name = if number == UNKNOWN { "unknown".to_string() } else { number.to_string() };
             println!("  {name}: {}", self.outcomes.get(&number).unwrap_or(&0));
         }
         self.coverage.print();
+        self.goals.print();
     }
 
     fn test_coverage(&mut self) {
         let misses = self.coverage.misses();
         for cell in needed() {
             self.tally.test(&format!("never reached: {cell}"), !misses.contains(&cell));
+        }
+        let misses = self.goals.misses();
+        for goal in goals::needed() {
+            self.tally.test(&format!("never met: {goal}"), !misses.contains(&goal));
         }
     }
 }
@@ -129,6 +145,8 @@ fn print_request(case: &Case, most_rows: usize) {
     println!("    payloads of {} and {} bytes", request.first.len(), request.second.len());
     println!("    output of {} words filled with {}", request.out_len, request.fill);
     println!("    expected reply {:?}, then {} words", expected.reply, expected.output.len());
+    print_words("list", &words_of(&request.second), most_rows);
+    print_words("expected output", &expected.output, most_rows);
     let words = words_of(&request.first);
     let (header, rows) = words.split_at(words.len().min(HEADER));
     println!("    header {header:?}");
@@ -136,6 +154,14 @@ fn print_request(case: &Case, most_rows: usize) {
         println!("    from word {}: {row:?}", HEADER + 4 * at);
     }
     if rows.len().div_ceil(4) > most_rows {
-        println!("    and more; --only {} shows all", case.about.number);
+        println!(
+            "    and more; --only {} with the same seed and counts shows all",
+            case.about.number
+        );
     }
+}
+
+fn print_words(name: &str, words: &[u32], most_rows: usize) {
+    let most = most_rows.saturating_mul(4).min(words.len());
+    println!("    {name}, {most} of {} words: {:?}", words.len(), &words[..most]);
 }

@@ -7,6 +7,8 @@ use crate::judge::{judge_bytes, judge_words, Verdict};
 use crate::make;
 use crate::named;
 use crate::random::Random;
+use crate::selftest_paths;
+use crate::selftest_questions;
 use crate::sheet::{bytes_of, words_of, MOST_EDGES, MOST_NODES};
 use crate::sister;
 use crate::tally::Tally;
@@ -25,6 +27,8 @@ pub fn run() -> Tally {
     coverage_misses(&mut tally);
     tallies(&mut tally);
     repeatable_cases(&mut tally);
+    selftest_questions::run(&mut tally);
+    selftest_paths::run(&mut tally);
     tally
 }
 
@@ -82,7 +86,7 @@ fn byte_lengths(tally: &mut Tally) {
 
 fn named_cases(tally: &mut Tally) {
     let named = named::all();
-    let plan = Plan::new(0, 0);
+    let plan = Plan::new(0, 0, 0);
     for (number, case) in named.iter().enumerate() {
         let own_fault = plan.case(number).about.own_fault;
         tally.test(&format!("judge of the named case: {}", case.name), own_fault.is_none());
@@ -200,9 +204,10 @@ fn tallies(tally: &mut Tally) {
 }
 
 fn repeatable_cases(tally: &mut Tally) {
-    let (plan, again, other) = (Plan::new(5, 200), Plan::new(5, 9000), Plan::new(6, 200));
+    let (plan, again) = (Plan::new(5, 200, 0), Plan::new(5, 9000, 0));
+    let other = Plan::new(6, 200, 0);
     let bytes = |plan: &Plan, number| plan.case(number).request.bytes();
-    let numbers = plan.len() - 200..plan.len();
+    let numbers = plan.checks() - 200..plan.checks();
     let same = numbers.clone().rev().all(|number| bytes(&plan, number) == bytes(&again, number));
     tally.test("a case follows from seed and number alone", same);
     let differ = numbers.filter(|&number| bytes(&plan, number) != bytes(&other, number)).count();

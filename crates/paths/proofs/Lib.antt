@@ -3,3 +3,4 @@ pub mod Ways
 pub mod Distances
 pub mod Rounds
 pub mod Trails
+pub mod Bounds

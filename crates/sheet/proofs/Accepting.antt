@@ -24,7 +24,7 @@ use Rattle.sheet.proofs.Refusing.{line-good, line-none, else-good, else
 
 -- ---- tests and facts
 
-or-false : (a b : Bool) → (a || b) ≡ false → (a ≡ false) × (b ≡ false)
+pub or-false : (a b : Bool) → (a || b) ≡ false → (a ≡ false) × (b ≡ false)
 or-false true b e = (e, absurd (true≢false e))
 or-false false b e = (refl, e)
 

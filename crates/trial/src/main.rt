@@ -1,5 +1,7 @@
 // Puts any input to every public function, for a program outside: requests on standard input, a reply to each on standard output.
 // The trial program's page in docs/TRIAL.md has the form of both.
+use ask::Answer;
+use ask::Question;
 use libc::STDIN_FILENO;
 use libc::STDOUT_FILENO;
 use sheet::Refusal;
@@ -14,8 +16,14 @@ const MAX_PAYLOAD: usize = 80000;
 
 const MAX_OUTPUT: usize = 20000;
 
+// The words of a request that this program looks at: the operation, its numbers in order, and the lengths and the fill.
 struct Request {
     operation: u32,
+    a1: u32,
+    a2: u32,
+    a3: u32,
+    a4: u32,
+    a5: u32,
     first: u32,
     second: u32,
     room: u32,
@@ -45,6 +53,66 @@ fn told(r: Refusal) -> Reply {
     }
 }
 
+// The reply of a question.
+fn replied(a: Answer) -> Reply {
+    Reply {
+        number: a.number,
+        sheet: a.sheet,
+        row: a.row,
+        value: a.value,
+        count: a.count,
+        extra: 0,
+        further: 0,
+    }
+}
+
+// What operations 1 to 4 ask, each with its own order of numbers.
+fn question_of(q: Request) -> Question {
+    if q.operation < 3 {
+        return Question {
+            office: q.a1,
+            rule: q.a1,
+            kind: 0,
+            person: q.a2,
+            deed: q.a3,
+            folio: q.a4,
+        };
+    }
+    Question {
+        office: q.a1,
+        rule: 0,
+        kind: q.a2,
+        person: q.a3,
+        deed: q.a4,
+        folio: q.a5,
+    }
+}
+
+// Operations 1 to 4 on words.
+fn ask_words(q: Request, sheet: &[u32], list: &[u32], out: &mut [u32]) -> Answer {
+    let question = question_of(q);
+    let operation = q.operation;
+    match operation {
+        1 => ask::answer_at_office(sheet, question),
+        2 => ask::joint_answer(sheet, question),
+        3 => ask::witness(sheet, question, out),
+        _ => ask::is_path(sheet, question, list),
+    }
+}
+
+// Operations 1 to 4 on the words of their payloads.
+fn ask_payloads(q: Request, first: &[u8], second: &[u8], out: &mut [u32]) -> Reply
+    requires { ⌜ (length (now first) ≤ 80000) × (length (now second) ≤ 80000) ⌝ }
+{
+    let mut words = [0u32; MAX_OUTPUT];
+    files::decode(first, &mut words);
+    let n = first.len() / 4;
+    let mut list = [0u32; MAX_OUTPUT];
+    files::decode(second, &mut list);
+    let m = second.len() / 4;
+    replied(ask_words(q, &words[0..n], &list[0..m], out))
+}
+
 // The words of a payload, judged as a sheet.
 fn check_payload(bytes: &[u8]) -> Refusal
     requires { ⌜ length (now bytes) ≤ 80000 ⌝ }
@@ -61,6 +129,9 @@ fn answer(q: Request, first: &[u8], second: &[u8], out: &mut [u32]) -> Reply
     requires { ⌜ (length (now first) ≤ 80000) × (length (now second) ≤ 80000) ⌝ }
 {
     let operation = q.operation;
+    if (1 <= operation) & (operation <= 4) {
+        return ask_payloads(q, first, second, out);
+    }
     match operation {
         0 => told(check_payload(first)),
         20 => told(files::check_bytes(first)),
@@ -124,12 +195,17 @@ fn fetch(bytes: &mut [u8]) -> bool {
     io::read_full(STDIN_FILENO, bytes) == n
 }
 
-// The words of a request that this program looks at.
+// A request's head.
 fn request_of(head: &[u8]) -> Request {
     let mut words = [0u32; 12];
     files::decode(head, &mut words);
     Request {
         operation: words[0],
+        a1: words[1],
+        a2: words[2],
+        a3: words[3],
+        a4: words[4],
+        a5: words[5],
         first: words[7],
         second: words[8],
         room: words[9],

@@ -1,0 +1,172 @@
+-- What the numbers of a walk back from the folio decide: whether there is a path, and the witness.
+-- Assumes nothing.
+use Prim.Native.Nat.{ℕ, zero, suc, _+_, _^_, _<_, _≤_}
+use native.Mathlib.Omega.{arith}
+use mathlib.Core.Path.{_≡_, refl, sym, ap, subst, _∙_}
+use mathlib.Core.Bool.{Bool, true, false, not, _&&_, _||_, true≢false, false≢true}
+use mathlib.Core.List.{List, [], _∷_}
+use mathlib.Core.Logic.{_⊎_, inl, inr, ⊎-elim}
+use lib.Dec.{eqb}
+use lib.ListN.{length, getD, set, replicate, length-set}
+use lib.Seq.{getD-set-same, getD-set-other}
+use Rattle.sheet.specs.Limits.{maxNodes}
+use borrow.Author.Tests.{eqb-true, eqb-false, eq-eqb, ne-eqb}
+use Rattle.tables.specs.Key.{Key, identity}
+use Rattle.tables.specs.Marks.{marked}
+use Rattle.tables.specs.Office.{View}
+use Rattle.tables.proofs.Tables.{MarkedRow}
+use Rattle.sheet.specs.declared.Header.{Header}
+use Rattle.sheet.specs.declared.Node.{Node}
+use Rattle.sheet.specs.Rows.{headerOf, nodeAt, edgeTable, nodeKeyAt}
+use Rattle.sheet.specs.Accepted.{WellFormed, Accepted}
+use Rattle.sheet.specs.Named.{nodeRow, seenAt}
+use Rattle.sheet.proofs.Naming.{node-seen, ends-seen}
+use Rattle.paths.specs.Steps.{Layers, Starts}
+use Rattle.paths.specs.Best.{Trail, Best}
+use Rattle.paths.proofs.Tests.{and-left, and-right, both, or-left, or-right}
+use Rattle.paths.proofs.Distances.{zero-or, layers-map}
+use Rattle.paths.proofs.Trails.{listed, numbered}
+use Rattle.meaning.specs.Paths.{Side, grant, ban, rightKind, person, category, deed, folio, member, right, applies, carries, HasPath}
+use Rattle.meaning.specs.Answers.{Says, answered, AnswerIs}
+use Rattle.meaning.proofs.Spelling.{onward}
+use Rattle.meaning.proofs.Axioms.{a1-a2}
+use Rattle.walk.specs.declared.Walk.{Walk}
+use Rattle.walk.specs.Arcs.{Steps}
+use Rattle.walk.proofs.Walking.{turned-layers}
+use Rattle.ask.specs.declared.Question.{Question}
+use Rattle.ask.specs.Asked.{stands, known, someRow, sideOf}
+use Rattle.ask.specs.Placed.{Placed, Target}
+use Rattle.ask.proofs.Links.{walkFor}
+use Rattle.ask.proofs.Bridge.{Laid, trail-path, path-trail}
+use Rattle.ask.proofs.Known.{some-at}
+
+-- the words alone: their own edge table and header
+pub words-of : (s t : List ℕ) (h : Header) → WellFormed s t h → Accepted s
+words-of s t h f = subst (λ (x : Header). WellFormed s (edgeTable s) x) (f .head) (subst (λ (x : List ℕ). WellFormed s x h) (f .table) f)
+
+module _ (s t : List ℕ) (h : Header) (f : WellFormed s t h) (k : ℕ) (side : Side) (q : Question) (rp rf : ℕ) (pl : Placed s q rp rf) (dist : List ℕ)
+    (y : Layers (Steps s t (walkFor k side (q .deed)) true (h .edges)) (λ x. x ≡ rf) dist) where
+  acc : Accepted s
+  acc = words-of s t h f
+
+  -- the numbers, over the words alone, as steps back
+  pub back-layers : Layers (λ a b. Steps s (edgeTable s) (walkFor k side (q .deed)) false (headerOf s .edges) b a) (λ x. x ≡ rf) dist
+  back-layers =
+      turned-layers s (edgeTable s) (walkFor k side (q .deed)) (headerOf s .edges) (λ x. x ≡ rf) dist
+      (subst (λ (x : Header). Layers (Steps s (edgeTable s) (walkFor k side (q .deed)) true (x .edges)) (λ x. x ≡ rf) dist) (f .head)
+      (subst (λ (x : List ℕ). Layers (Steps s x (walkFor k side (q .deed)) true (h .edges)) (λ x. x ≡ rf) dist) (f .table) y))
+
+  pub reached-path : (getD dist rp 0 ≡ 0 → ⊥) → HasPath (seenAt s (suc k)) side (q .person) (q .deed) (q .folio)
+  reached-path n = ⊎-elim (λ z. absurd (n z)) some (zero-or (getD dist rp 0))
+    where
+      some : (m : ℕ) × (getD dist rp 0 ≡ suc m) → HasPath (seenAt s (suc k)) side (q .person) (q .deed) (q .folio)
+      some m =
+          let l = listed _ _ (back-layers .sound rp (m .0) (m .1)) in
+          trail-path s acc k side (q .deed) (pl .deed-some) rf (q .folio) (pl .folio-in) (pl .folio-is) rp (q .person) (l .0) (pl .person-is) (l .1)
+
+  pub path-reached : HasPath (seenAt s (suc k)) side (q .person) (q .deed) (q .folio) → getD dist rp 0 ≡ 0 → ⊥
+  path-reached p z =
+      let l = path-trail s acc k side (q .deed) (pl .deed-some) rf (q .folio) (pl .folio-in) (pl .folio-is) rp (q .person) (p .words) (pl .person-in) (pl .person-is) (p .is) in
+      let n = numbered _ _ dist back-layers (l .trail) in
+      let n0 = n .0 in
+      omega arith
+
+  pub reach-says : (b : Bool) → b ≡ not (eqb (getD dist rp 0) 0) → Says b (HasPath (seenAt s (suc k)) side (q .person) (q .deed) (q .folio))
+  reach-says true e = reached-path (λ z. true≢false (e ∙ ap not (eq-eqb (getD dist rp 0) 0 z)))
+  reach-says false e = λ p. path-reached p (zero-is (eqb (getD dist rp 0) 0) refl)
+    where
+      zero-is : (u : Bool) → eqb (getD dist rp 0) 0 ≡ u → getD dist rp 0 ≡ 0
+      zero-is true d = eqb-true (getD dist rp 0) 0 d
+      zero-is false d = absurd (false≢true (e ∙ ap not d))
+
+-- ---- who an office does not know has no path there
+
+module _ (s : List ℕ) (acc : Accepted s) (office : ℕ) where
+  seen-known : (class number variant : ℕ) → seenAt s office .node (identity class number variant) ≡ true → known s false office class number ≡ true
+  unfolding known stands nodeRow
+  seen-known class number variant e =
+      let r = node-seen s acc office (identity class number variant) e in
+      let a : nodeAt s (r .row) .class ≡ class = cc (r .names) in
+      let b : nodeAt s (r .row) .number ≡ number = cc (r .names) in
+      some-at _ (headerOf s .nodes) (r .row) (r .inside) (both (eq-eqb _ class a) (both (eq-eqb _ number b) (r .bears)))
+
+  pub path-known : (side : Side) (p d f : ℕ) → HasPath (seenAt s office) side p d f → (known s false office 1 p ≡ true) × (known s false office 3 d ≡ true) × (known s false office 4 f ≡ true)
+  path-known side p d f h =
+      let a = a1-a2 (seenAt s office) p d f side .0 h in
+      let m = ends-seen s acc office 1 1 p 0 2 (a .c) 0 (a .assigned) in
+      let n = ends-seen s acc office 5 3 d (a .variant) 4 f 0 (a .of) in
+      (seen-known 1 p 0 (m .0), seen-known 3 d (a .variant) (n .0), seen-known 4 f 0 (n .1))
+
+-- what a row that a search found is
+pub found-class : (s : List ℕ) (any : Bool) (office class number i : ℕ) → stands s any office class number i ≡ true → (nodeAt s i .class ≡ class) × (nodeAt s i .number ≡ number)
+unfolding stands
+found-class s any office class number i e =
+    (eqb-true _ class (and-left (eqb (nodeAt s i .class) class) _ e), eqb-true _ number (and-left (eqb (nodeAt s i .number) number) _ (and-right (eqb (nodeAt s i .class) class) _ e)))
+
+-- rows that were found for person, deed and folio place the question
+pub placed-by : (s : List ℕ) → Accepted s → (any : Bool) (office : ℕ) (q : Question) (rp rd rf : ℕ) → rp < headerOf s .nodes → rd < headerOf s .nodes → rf < headerOf s .nodes
+    → stands s any office 1 (q .person) rp ≡ true → stands s any office 3 (q .deed) rd ≡ true → stands s any office 4 (q .folio) rf ≡ true → Placed s q rp rf
+placed-by s acc any office q rp rd rf lp ld lf ep ed ef =
+    let a = found-class s any office 1 (q .person) rp ep in
+    let b = found-class s any office 3 (q .deed) rd ed in
+    let c = found-class s any office 4 (q .folio) rf ef in
+    let u : nodeAt s rp .variant ≡ 0 = acc .nodes .fit rp lp .variant (λ z. let w = a .0 in omega arith) in
+    let v : nodeAt s rf .variant ≡ 0 = acc .nodes .fit rf lf .variant (λ z. let w = c .0 in omega arith) in
+    let a0 = a .0 in
+    let a1 = a .1 in
+    let c0 = c .0 in
+    let c1 = c .1 in
+    record { person-in = lp; person-is = cc; folio-in = lf; folio-is = cc; deed-some = λ z. acc .nodes .fit rd ld .number (b .1 ∙ z) }
+
+-- ---- the numbers at the outset
+
+zeros-all : (n i : ℕ) → _≡_ {A = ℕ} (getD (replicate n 0) i 0) 0
+zeros-all zero i = refl
+zeros-all (suc n) zero = refl
+zeros-all (suc n) (suc i) = zeros-all n i
+
+pub target-set : (at : ℕ) → at < maxNodes → Target at (set (replicate maxNodes 0) at 1)
+target-set at h =
+    record {
+      long = length-set {A = ℕ} (replicate maxNodes 0) at 1;
+      one = getD-set-same (replicate maxNodes 0) at 1 0 h;
+      rest = λ i n. getD-set-other (replicate maxNodes 0) at i 1 0 n ∙ zeros-all maxNodes i;
+    }
+
+pub target-low : (at : ℕ) (d : List ℕ) → Target at d → (i : ℕ) → getD d i 0 ≤ 1
+target-low at d t i = go (eqb i at) refl
+  where
+    go : (b : Bool) → eqb i at ≡ b → getD d i 0 ≤ 1
+    go true e = let z = ap (λ (x : ℕ). getD d x 0) (eqb-true i at e) ∙ t .one in omega arith
+    go false e = let z = t .rest i (eqb-false i at e) in omega arith
+
+-- the start is the one row
+pub target-layers : (R : ℕ → ℕ → Type 0) (at : ℕ) (d₀ d : List ℕ) → Target at d₀ → Layers R (Starts d₀) d → Layers R (λ x. x ≡ at) d
+target-layers R at d₀ d t y = layers-map (λ a b x. x) (λ a b x. x) from to y
+  where
+    from : (a : ℕ) → getD d₀ a 0 ≡ 1 → a ≡ at
+    from a e = go (eqb a at) refl
+      where
+        go : (b : Bool) → eqb a at ≡ b → a ≡ at
+        go true q = eqb-true a at q
+        go false q = let z = t .rest a (eqb-false a at q) in absurd (omega arith)
+
+    to : (a : ℕ) → a ≡ at → getD d₀ a 0 ≡ 1
+    to a e = ap (λ (x : ℕ). getD d₀ x 0) e ∙ t .one
+
+pub side-ban : (kind : ℕ) → (kind ≡ 0 → ⊥) → sideOf kind ≡ ban
+unfolding sideOf
+side-ban zero n = absurd (n refl)
+side-ban (suc kind) n = refl
+
+pub side-grant : (kind : ℕ) → kind ≡ 0 → sideOf kind ≡ grant
+unfolding sideOf
+side-grant kind e = rw e
+
+-- the walk that the code makes
+pub walk-is : (w : Walk) (k mark kind deed : ℕ) → w ≡ record { mark = mark; right = rightKind (sideOf kind); deed = deed } → mark ≡ 2 ^ k → w ≡ walkFor k (sideOf kind) deed
+walk-is w k mark kind deed e m = e ∙ ap (λ (x : ℕ). record { mark = x; right = rightKind (sideOf kind); deed = deed }) m
+
+-- as many nodes by the header that is handed on as by the words
+pub nodes-same : (s t : List ℕ) (h : Header) → WellFormed s t h → h .nodes ≡ headerOf s .nodes
+nodes-same s t h f = ap (λ (x : Header). x .nodes) (f .head)

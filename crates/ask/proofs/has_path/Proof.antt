@@ -1,0 +1,40 @@
+use Prim.Native.Nat.{ℕ, _^_, _<_}
+use mathlib.Core.Bool.{true}
+use mathlib.Core.Path.{_≡_, refl, sym, ap, subst, _∙_}
+use native.Mathlib.Omega.{arith}
+use borrow.Author.Needs.{needs}
+use Rattle.ask.proofs.Deciding.{reach-says, walk-is, nodes-same}
+use Rattle.ask.proofs.Links.{walkFor}
+use Rattle.ask.specs.Asked.{sideOf}
+use Rattle.paths.specs.Steps.{Layers}
+use Rattle.walk.specs.Arcs.{Steps}
+use Rattle.walk.specs.declared.Walk.{Walk}
+use Rattle.ask.proofs.has_path.Statement.{statement}
+use Rattle.ask.proofs.has_path.Tie as tie
+
+-- `ask::has_path` meets its contract: there is a path exactly if the walk back from the folio numbers the person.
+-- Assumes nothing.
+
+walk-for-requires : tie.Need-walk-for-requires
+walk-for-requires c κs = search needs
+
+measured-requires : tie.Need-measured-requires
+measured-requires c κs = let S = c .before .before .before .pre in
+    let m = ap (λ (x : Walk). x .mark) (c .walk-for .ensures) in
+    (S .0 .formed, omega (arith, S .0 .mark-some), omega (arith, nodes-same _ _ _ (S .0 .formed), S .1 .folio-in))
+
+mul-result : tie.Need-mul-result
+mul-result c = search needs
+
+array-read-result : tie.Need-array-read-result
+array-read-result c = let S = c .before .before .before .before .pre in omega (arith, nodes-same _ _ _ (S .0 .formed), S .1 .person-in, S .0 .formed .nodes .header)
+
+returns : tie.Need-returns
+returns c = let S = c .before .before .before .before in
+    let w = walk-is (c .before .walk-for .result) (S .args .k) (S .args .mark) (S .args .kind) (S .args .q .deed) (c .before .walk-for .ensures) (S .pre .0 .mark-is) in
+    reach-says (S .args .sheet .now) (S .args .edges .now) (S .args .h) (S .pre .0 .formed) (S .args .k) (sideOf (S .args .kind)) (S .args .q) (S .args .rp) (S .args .rf) (S .pre .1) (c .measured .result)
+    (subst (λ (x : Walk). Layers (Steps (S .args .sheet .now) (S .args .edges .now) x true (S .args .h .edges)) (λ y. y ≡ S .args .rf) (c .measured .result)) w (c .measured .ensures .1)) _ refl
+
+pub has-path-spec : {M : Type 1} → statement M
+has-path-spec =
+    tie.close (tie.spec walk-for-requires measured-requires mul-result array-read-result returns)

@@ -1,0 +1,42 @@
+-- `ask::witness_checked` meets its contract.
+-- Assumes nothing.
+use mathlib.Core.Path.{_≡_, refl, sym, subst, _∙_}
+use borrow.Author.Needs.{needs}
+use Rattle.ask.proofs.Deciding.{words-of}
+use Rattle.ask.proofs.Telling.{show-refused, show-office, show-stands}
+use Rattle.ask.proofs.witness_checked.Statement.{statement}
+use Rattle.ask.proofs.witness_checked.Tie as tie
+
+stand-of-requires : tie.Need-stand-of-requires
+stand-of-requires c κs = let f = c .before .before .before .pre in (words-of _ _ _ f, f .head)
+
+refused-by-requires : tie.Need-refused-by-requires
+refused-by-requires c κs = search needs
+
+returns : tie.Need-returns
+returns c = show-refused _ _ _ _ _ _ (c .before .before .before .stand-of .ensures .number) (c .before .if1 .taken) (c .refused-by .ensures) refl
+
+witness-at-requires : tie.Need-witness-at-requires
+witness-at-requires c κs = let S = c .before .before .before .before .before .before .before in
+    let T = c .before .before .before .stand-of .ensures in
+    let z = c .before .if1 .left in
+    (record { formed = S .pre; mark-is = T .mark z .0; mark-some = T .mark z .1 }, T .placed z)
+
+same-length : tie.Need-same-length
+same-length c = search needs
+
+returns-2 : tie.Need-returns-2
+returns-2 c = let T = c .before .before .before .before .before .before .stand-of .ensures in
+    let z = c .before .before .before .before .if1 .left in
+    show-stands _ _ _ _ _ (sym (T .number) ∙ z) (show-office _ _ _ _ _ _ _ _ _ _ _ (T .office z) (c .before .before .witness-at .ensures))
+
+pub witness-checked-spec : {M : Type 1} → statement M
+witness-checked-spec =
+    tie.close
+    (tie.spec
+    stand-of-requires
+    refused-by-requires
+    returns
+    witness-at-requires
+    same-length
+    returns-2)

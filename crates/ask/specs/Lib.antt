@@ -1,0 +1,6 @@
+pub mod Asked
+pub mod Written
+pub mod Placed
+pub mod Replies
+pub mod Passing
+pub mod Listed

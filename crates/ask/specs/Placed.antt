@@ -1,0 +1,58 @@
+-- What the inner functions of a question are handed.
+-- Assumes nothing.
+use Prim.Native.Nat.{ℕ, suc, _^_, _<_, _≤_}
+use mathlib.Core.Path.{_≡_}
+use mathlib.Core.Bool.{Bool, not}
+use mathlib.Core.List.{List}
+use lib.ListN.{length, getD}
+use Rattle.sheet.specs.declared.Header.{Header}
+use Rattle.sheet.specs.Limits.{maxNodes}
+use Rattle.sheet.specs.Refusals.{_below_, _when_otherwise_}
+use Rattle.sheet.specs.Rows.{headerOf, nodeKeyAt}
+use Rattle.sheet.specs.Accepted.{WellFormed}
+use Rattle.meaning.specs.Paths.{person, folio}
+use Rattle.ask.specs.declared.Question.{Question}
+use Rattle.ask.specs.declared.Places.{Places}
+use Rattle.ask.specs.declared.Stand.{Stand}
+use Rattle.ask.specs.Asked.{stands, askFault, FirstStanding}
+
+-- the rows of the question's person and folio, and that its deed is one
+pub record Placed (s : List ℕ) (q : Question) (rp rf : ℕ) : Type 0 where
+  pub person-in : rp < headerOf s .nodes
+  pub person-is : nodeKeyAt s rp ≡ person (q .person)
+  pub folio-in : rf < headerOf s .nodes
+  pub folio-is : nodeKeyAt s rf ≡ folio (q .folio)
+  pub deed-some : q .deed ≡ 0 → ⊥
+
+-- a sheet's words with their edge table and header, at office k + 1 with its mark
+pub record AtOffice (s t : List ℕ) (h : Header) (k mark : ℕ) : Type 0 where
+  pub formed : WellFormed s t h
+  pub mark-is : mark ≡ 2 ^ k
+  pub mark-some : 0 < mark
+
+-- numbers of which the one at a row is 1 and every other is 0
+pub record Target (at : ℕ) (d : List ℕ) : Type 0 where
+  pub long : length d ≡ maxNodes
+  pub one : getD d at 0 ≡ 1
+  pub rest : (i : ℕ) → (i ≡ at → ⊥) → getD d i 0 ≡ 0
+
+-- where a search found the question's person, deed and folio
+pub record FoundAll (s : List ℕ) (any : Bool) (office n : ℕ) (q : Question) (p : Places) : Type 0 where
+  pub person-at : FirstStanding (stands s any office 1 (q .person)) n (p .person)
+  pub deed-at : FirstStanding (stands s any office 3 (q .deed)) n (p .deed)
+  pub folio-at : FirstStanding (stands s any office 4 (q .folio)) n (p .folio)
+
+-- 21, 22, 23 by the rows that a search found
+unfoldable pub unfound : ℕ → Places → ℕ
+unfound n p =
+    21 when not (p .person below n) otherwise
+    22 when not (p .deed below n) otherwise
+    23 when not (p .folio below n) otherwise
+    0
+
+-- how a question at an office stands: what refuses it, and where nothing does the office's mark and the rows of the person and the folio
+pub record StandsSo (s : List ℕ) (q : Question) (r : Stand) : Type 0 where
+  pub number : r .number ≡ askFault s q
+  pub office : r .number ≡ 0 → q .office ≡ suc (r .office)
+  pub mark : r .number ≡ 0 → (r .mark ≡ 2 ^ r .office) × (0 < r .mark)
+  pub placed : r .number ≡ 0 → Placed s q (r .person) (r .folio)

@@ -1,0 +1,37 @@
+-- Node rows as words, and what writes a path.
+-- Assumes nothing.
+use Prim.Native.Nat.{ℕ, suc, _^_, _<_, _≤_}
+use mathlib.Core.Path.{_≡_}
+use mathlib.Core.Bool.{true}
+use mathlib.Core.List.{List, [], _∷_}
+use lib.ListN.{length, take, getD}
+use Rattle.sheet.specs.declared.Header.{Header}
+use Rattle.sheet.specs.Limits.{maxNodes}
+use Rattle.sheet.specs.Rows.{nodeAt}
+use Rattle.sheet.specs.Named.{seenAt}
+use Rattle.paths.specs.Steps.{Layers}
+use Rattle.walk.specs.Arcs.{Steps}
+use Rattle.meaning.specs.Paths.{rightKind}
+use Rattle.meaning.specs.Questions.{WitnessIs}
+use Rattle.ask.specs.declared.Question.{Question}
+use Rattle.ask.specs.Asked.{sideOf}
+
+-- two words for each row, number and variant
+unfoldable pub nodeWords : List ℕ → List ℕ → List ℕ
+nodeWords s [] = []
+nodeWords s (i ∷ rows) = nodeAt s i .number ∷ nodeAt s i .variant ∷ nodeWords s rows
+
+-- the first n rows named are rows that there are
+abbrev pub RowsIn : ℕ → List ℕ → ℕ → Type 0
+RowsIn nodes rows n = (i : ℕ) → i < n → getD rows i 0 < nodes
+
+-- the numbers of the walk back from a row, of the question's side at office k + 1
+pub record Measured (s t : List ℕ) (h : Header) (k : ℕ) (q : Question) (to : ℕ) (d : List ℕ) : Type 0 where
+  pub long : length d ≡ maxNodes
+  pub layers : Layers (Steps s t (record { mark = 2 ^ k; right = rightKind (sideOf (q .kind)); deed = q .deed }) true (h .edges)) (λ x. x ≡ to) d
+
+-- n rows in front whose words are the witness of the question at office k + 1
+pub record PathRows (s : List ℕ) (nodes k : ℕ) (q : Question) (n : ℕ) (rows : List ℕ) : Type 0 where
+  pub inside : RowsIn nodes rows n
+  pub most : n ≤ length rows
+  pub is : WitnessIs (seenAt s (suc k)) (sideOf (q .kind)) (q .person) (q .deed) (q .folio) (nodeWords s (take n rows))

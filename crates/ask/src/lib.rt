@@ -1,0 +1,828 @@
+// Questions 1 to 4: the answer at an office, the joint answer, the witness, and whether a list is a path.
+use sheet::Header;
+use sheet::Node;
+use sheet::Refusal;
+use walk::Walk;
+ghost use mathlib.Core.Path.{_≡_};
+ghost use mathlib.Core.Bool.{Bool, true, false, _&&_, _||_};
+ghost use Prim.Native.Nat.{ℕ, suc, _+_, _-_, _*_, _/_, _%_, _^_, _<_, _≤_};
+ghost use lib.ListN.{length, getD, take, drop};
+ghost use mathlib.Core.List.{_++_};
+ghost use Rattle.tables.specs.Key.{identity, relation};
+ghost use Rattle.sheet.specs.Limits.{maxOffices, maxNodes};
+ghost use Rattle.sheet.specs.Refusals.{_is_, none};
+ghost use Rattle.sheet.specs.Rows.{headerOf, nodeKey, nodeKeyAt};
+ghost use Rattle.sheet.specs.Accepted.{NodesFormed, WellFormed, Accepted};
+ghost use Rattle.sheet.specs.Named.{seenAt};
+ghost use Rattle.paths.specs.Leads.{among};
+ghost use Rattle.paths.specs.Steps.{Layers};
+ghost use Rattle.walk.specs.Arcs.{Steps};
+ghost use Rattle.meaning.specs.Paths.{Side, rightKind, HasPath, member, step, carries, isPath};
+ghost use Rattle.meaning.specs.Answers.{Says, answered, AnswerIs, lowest, undetermined, jointly, JointIs};
+ghost use Rattle.meaning.specs.Questions.{WitnessIs};
+ghost use Rattle.ask.specs.Asked.{FirstStanding, stands, known, unknown, badOffice, askFault, jointFault, plain, afterSheet, sideOf};
+ghost use Rattle.ask.specs.Placed.{Placed, AtOffice, Target, FoundAll, unfound, StandsSo};
+ghost use Rattle.ask.specs.Replies.{refusedBy, tells, Replies, Shows};
+ghost use Rattle.ask.specs.Listed.{numberOf, rowOf, everySecond, plainFrom, framed, wayFrom, goesOn};
+ghost use Rattle.ask.specs.Passing.{passing, telling};
+ghost use Rattle.ask.specs.Written.{nodeWords, RowsIn, Measured, PathRows};
+
+// What is asked. Each question looks at the numbers that it names: office or rule, and kind, 0 for a grant and any other for a ban.
+pub struct Question {
+    pub office: u32,
+    pub rule: u32,
+    pub kind: u32,
+    pub person: u32,
+    pub deed: u32,
+    pub folio: u32,
+}
+
+// A refusal's number and place, or number 0 with what the question tells.
+#[repr(C)]
+pub struct Answer {
+    pub number: u32,
+    pub sheet: u32,
+    pub row: u32,
+    pub value: u32,
+    pub count: u32,
+}
+
+// The node rows of a question's person, deed and folio; the node count where there is none.
+pub struct Places {
+    pub person: u32,
+    pub deed: u32,
+    pub folio: u32,
+}
+
+// How a question at an office stands: a refusal's number, or 0 with the office counted from 0, its mark, and the rows of the person and the folio.
+struct Stand {
+    number: u32,
+    office: u32,
+    mark: u32,
+    person: u32,
+    folio: u32,
+}
+
+// One number for each node row.
+const ROWS: usize = sheet::MAX_NODES as usize;
+
+// One number for each office.
+const OFFICES: usize = sheet::MAX_OFFICES as usize;
+
+// Whether a node row has the type and the number, and the mark, or any where `any` says so.
+fn is_standing(r: Node, any: bool, mark: u32, class: u32, number: u32) -> bool
+    requires { ⌜ 0 < mark ⌝ }
+    ensures { λ b. ⌜ b ≡ ((r .class is class) && ((r .number is number) && (any || ((r .offices / mark % 2) is 1)))) ⌝ }
+{
+    (r.class == class) & ((r.number == number) & (any | (r.offices / mark % 2 == 1)))
+}
+
+// The first node row of the type and the number that office k + 1 has, or any office where `any` says so; the node count where there is none.
+fn seek(sheet: &[u32], h: Header, any: bool, k: u32, mark: u32, class: u32, number: u32) -> u32
+    requires { ⌜ NodesFormed (now sheet) h × (mark ≡ 2 ^ k) × (0 < mark) ⌝ }
+    ensures { λ r. ⌜ FirstStanding (stands (now (sheet .entry)) any (suc k) class number) (h .nodes) r ⌝ }
+{
+    let n = h.nodes;
+    let mut i: u32 = 0;
+    while i < n {
+        let r = sheet::node_at(sheet, i as usize);
+        if is_standing(r, any, mark, class, number) {
+            return i;
+        }
+        i += 1;
+    }
+    n
+}
+
+// Where the question's person, deed and folio stand.
+fn places_of(sheet: &[u32], h: Header, any: bool, k: u32, mark: u32, q: Question) -> Places
+    requires { ⌜ NodesFormed (now sheet) h × (mark ≡ 2 ^ k) × (0 < mark) ⌝ }
+    ensures { λ r. ⌜ FoundAll (now (sheet .entry)) any (suc k) (h .nodes) q r ⌝ }
+{
+    let person = seek(sheet, h, any, k, mark, 1, q.person);
+    let deed = seek(sheet, h, any, k, mark, 3, q.deed);
+    let folio = seek(sheet, h, any, k, mark, 4, q.folio);
+    Places {
+        person: person,
+        deed: deed,
+        folio: folio,
+    }
+}
+
+// The numbers at the outset: 1 at a row, 0 at every other.
+fn target(at: u32) -> [u32; ROWS]
+    requires { ⌜ at < maxNodes ⌝ }
+    ensures { λ r. ⌜ Target at r ⌝ }
+{
+    let mut d = [0u32; ROWS];
+    let i = at as usize;
+    d[i] = 1;
+    d
+}
+
+// How many steps lead from each node row to a row, and one; 0 where none do.
+fn measured(sheet: &[u32], edges: &[u32], h: Header, w: Walk, to: u32) -> [u32; ROWS]
+    requires { ⌜ WellFormed (now sheet) (now edges) h × (0 < w .mark) × (to < h .nodes) ⌝ }
+    ensures { λ r. ⌜ (length r ≡ maxNodes) × Layers (Steps (now (sheet .entry)) (now (edges .entry)) w true (h .edges)) (λ x. x ≡ to) r ⌝ }
+{
+    let mut d = target(to);
+    walk::layers(sheet, edges, h, w, true, &mut d);
+    d
+}
+
+// The walk of a side's paths.
+fn walk_for(mark: u32, kind: u32, deed: u32) -> Walk
+    ensures { λ r. ⌜ r ≡ record { mark = mark; right = rightKind (sideOf kind); deed = deed } ⌝ }
+{
+    if kind == 0 {
+        return Walk {
+            mark: mark,
+            right: 3,
+            deed: deed,
+        };
+    }
+    Walk {
+        mark: mark,
+        right: 4,
+        deed: deed,
+    }
+}
+
+// Whether office k + 1 has a grant or a ban path for the question's person, deed and folio.
+fn has_path(
+    sheet: &[u32],
+    edges: &[u32],
+    h: Header,
+    k: u32,
+    mark: u32,
+    kind: u32,
+    q: Question,
+    rp: u32,
+    rf: u32,
+) -> bool
+    requires { ⌜ AtOffice (now sheet) (now edges) h k mark × Placed (now sheet) q rp rf ⌝ }
+    ensures { λ r. ⌜ Says r (HasPath (seenAt (now (sheet .entry)) (suc k)) (sideOf kind) (q .person) (q .deed) (q .folio)) ⌝ }
+{
+    let w = walk_for(mark, kind, q.deed);
+    let d = measured(sheet, edges, h, w, rf);
+    let i = rp as usize;
+    d[i] != 0
+}
+
+// The answer of office k + 1 on placed rows: 0 Undetermined, 1 Granted, 2 Banned, 3 Both.
+fn answer_at(
+    sheet: &[u32],
+    edges: &[u32],
+    h: Header,
+    k: u32,
+    mark: u32,
+    q: Question,
+    rp: u32,
+    rf: u32,
+) -> u32
+    requires { ⌜ AtOffice (now sheet) (now edges) h k mark × Placed (now sheet) q rp rf ⌝ }
+    ensures { λ r. ⌜ AnswerIs (seenAt (now (sheet .entry)) (suc k)) (q .person) (q .deed) (q .folio) r ⌝ }
+{
+    let grants = has_path(sheet, edges, h, k, mark, 0, q, rp, rf);
+    let bans = has_path(sheet, edges, h, k, mark, 1, q, rp, rf);
+    answer_number(grants, bans)
+}
+
+// The answers' numbers.
+fn answer_number(grants: bool, bans: bool) -> u32
+    ensures { λ r. ⌜ r ≡ answered grants bans ⌝ }
+{
+    if grants {
+        if bans {
+            return 3;
+        }
+        return 1;
+    }
+    if bans {
+        return 2;
+    }
+    0
+}
+
+// 21, 22 or 23 where the person, the deed or the folio has no row.
+fn unknown_of(h: Header, p: Places) -> u32
+    ensures { λ r. ⌜ r ≡ unfound (h .nodes) p ⌝ }
+{
+    if h.nodes <= p.person {
+        return 21;
+    }
+    if h.nodes <= p.deed {
+        return 22;
+    }
+    if h.nodes <= p.folio {
+        return 23;
+    }
+    0
+}
+
+// The answer of office k + 1. An office that does not know the person, the deed or the folio is undetermined.
+fn office_answer(sheet: &[u32], edges: &[u32], h: Header, k: u32, mark: u32, q: Question) -> u32
+    requires { ⌜ AtOffice (now sheet) (now edges) h k mark ⌝ }
+    ensures { λ r. ⌜ AnswerIs (seenAt (now (sheet .entry)) (suc k)) (q .person) (q .deed) (q .folio) r ⌝ }
+{
+    let p = places_of(sheet, h, false, k, mark, q);
+    if unknown_of(h, p) != 0 {
+        return 0;
+    }
+    answer_at(sheet, edges, h, k, mark, q, p.person, p.folio)
+}
+
+// The mark of office k + 1.
+fn mark_of(k: u32) -> u32
+    requires { ⌜ k < maxOffices ⌝ }
+    ensures { λ r. ⌜ (r ≡ 2 ^ k) × (0 < r) ⌝ }
+{
+    1u32 << k
+}
+
+// 20 where there is no such office.
+fn bad_office(h: Header, office: u32) -> u32
+    ensures { λ r. ⌜ r ≡ badOffice h office ⌝ }
+{
+    if (office < 1) | (h.offices < office) {
+        return 20;
+    }
+    0
+}
+
+// A refusal as an answer.
+fn refused(r: Refusal) -> Answer
+    ensures { λ a. ⌜ a ≡ refusedBy r ⌝ }
+{
+    Answer {
+        number: r.number,
+        sheet: r.sheet,
+        row: r.row,
+        value: 0,
+        count: 0,
+    }
+}
+
+// A refusal at place 0, 0 as an answer.
+fn refused_by(number: u32) -> Answer
+    ensures { λ a. ⌜ a ≡ refusedBy (record { number = number; sheet = 0; row = 0 }) ⌝ }
+{
+    Answer {
+        number: number,
+        sheet: 0,
+        row: 0,
+        value: 0,
+        count: 0,
+    }
+}
+
+// What a question tells, as an answer.
+fn told(value: u32, count: u32) -> Answer
+    ensures { λ a. ⌜ a ≡ tells value count ⌝ }
+{
+    Answer {
+        number: 0,
+        sheet: 0,
+        row: 0,
+        value: value,
+        count: count,
+    }
+}
+
+// How a question stands at an office that there is.
+fn stand_at(sheet: &[u32], h: Header, k: u32, q: Question) -> Stand
+    requires { ⌜ Accepted (now sheet) × (h ≡ headerOf (now sheet)) × (q .office ≡ suc k) × (k < h .offices) ⌝ }
+    ensures { λ r. ⌜ StandsSo (now (sheet .entry)) q r ⌝ }
+{
+    let mark = mark_of(k);
+    let p = places_of(sheet, h, false, k, mark, q);
+    Stand {
+        number: unknown_of(h, p),
+        office: k,
+        mark: mark,
+        person: p.person,
+        folio: p.folio,
+    }
+}
+
+// How a question at an office stands.
+fn stand_of(sheet: &[u32], h: Header, q: Question) -> Stand
+    requires { ⌜ Accepted (now sheet) × (h ≡ headerOf (now sheet)) ⌝ }
+    ensures { λ r. ⌜ StandsSo (now (sheet .entry)) q r ⌝ }
+{
+    let n = bad_office(h, q.office);
+    if n != 0 {
+        return Stand {
+            number: n,
+            office: 0,
+            mark: 0,
+            person: 0,
+            folio: 0,
+        };
+    }
+    stand_at(sheet, h, q.office - 1, q)
+}
+
+// Question 1 on a sheet that was checked.
+fn answer_checked(sheet: &[u32], edges: &[u32], h: Header, q: Question) -> Answer
+    requires { ⌜ WellFormed (now sheet) (now edges) h ⌝ }
+    ensures { λ a. ⌜ Replies (plain (askFault (now (sheet .entry)) q)) (λ value count. AnswerIs (seenAt (now (sheet .entry)) (q .office)) (q .person) (q .deed) (q .folio) value × (count ≡ 0)) a ⌝ }
+{
+    let t = stand_of(sheet, h, q);
+    if t.number != 0 {
+        return refused_by(t.number);
+    }
+    told(
+        answer_at(sheet, edges, h, t.office, t.mark, q, t.person, t.folio),
+        0,
+    )
+}
+
+// Question 1, the answer at an office: 0 Undetermined, 1 Granted, 2 Banned, 3 Both, in `value`.
+pub fn answer_at_office(sheet: &[u32], q: Question) -> Answer
+    ensures { λ a. ⌜ Replies (afterSheet (now (sheet .entry)) (askFault (now (sheet .entry)) q)) (λ value count. AnswerIs (seenAt (now (sheet .entry)) (q .office)) (q .person) (q .deed) (q .folio) value × (count ≡ 0)) a ⌝ }
+{
+    let r = verdict::check(sheet);
+    if r.number != 0 {
+        return refused(r);
+    }
+    let h = sheet::header_of(sheet);
+    let from = h.edgeoffset as usize;
+    answer_checked(sheet, &sheet[from..], h, q)
+}
+
+// The answers of the offices, in order.
+fn answers_of(sheet: &[u32], edges: &[u32], h: Header, q: Question) -> [u32; OFFICES]
+    requires { ⌜ WellFormed (now sheet) (now edges) h ⌝ }
+    ensures { λ r. ⌜ (length r ≡ maxOffices) × ((i : ℕ) → i < h .offices → AnswerIs (seenAt (now (sheet .entry)) (suc i)) (q .person) (q .deed) (q .folio) (getD r i 0)) ⌝ }
+{
+    let mut rs = [0u32; OFFICES];
+    let n = h.offices;
+    let mut k: u32 = 0;
+    while k < n {
+        let mark = mark_of(k);
+        let at = k as usize;
+        rs[at] = office_answer(sheet, edges, h, k, mark, q);
+        k += 1;
+    }
+    rs
+}
+
+// Whether an answer has what is wanted: 0 any but Undetermined, 1 Granted or Both, 2 Banned or Both.
+fn passes(want: u32, r: u32) -> bool
+    ensures { λ b. ⌜ b ≡ passing want r ⌝ }
+{
+    if want == 0 {
+        return 0 < r;
+    }
+    (r == want) | (r == 3)
+}
+
+// The lowest of n offices, counted from 0, whose answer has what is wanted; n where none has.
+fn first_passing(rs: [u32; OFFICES], n: u32, want: u32) -> u32
+    requires { ⌜ n ≤ maxOffices ⌝ }
+    ensures { λ r. ⌜ FirstStanding (λ i. passing want (getD rs i 0)) n r ⌝ }
+{
+    let mut i: u32 = 0;
+    while i < n {
+        let at = i as usize;
+        if passes(want, rs[at]) {
+            return i;
+        }
+        i += 1;
+    }
+    n
+}
+
+// One side if some office gives it, else another if some office gives that; the lowest that does decides.
+fn side_first(rs: [u32; OFFICES], n: u32, one: u32, two: u32) -> Answer
+    requires { ⌜ (length rs ≡ maxOffices) × (n ≤ maxOffices) ⌝ }
+    ensures { λ a. ⌜ a ≡ telling (lowest (passing one) (λ r. one) 1 (take n rs) (lowest (passing two) (λ r. two) 1 (take n rs) undetermined)) ⌝ }
+{
+    let first = first_passing(rs, n, one);
+    if first < n {
+        return told(one, first + 1);
+    }
+    let second = first_passing(rs, n, two);
+    if second < n {
+        return told(two, second + 1);
+    }
+    told(0, 0)
+}
+
+// The answer of the lowest office that is not undetermined.
+fn first_applicable(rs: [u32; OFFICES], n: u32) -> Answer
+    requires { ⌜ (length rs ≡ maxOffices) × (n ≤ maxOffices) ⌝ }
+    ensures { λ a. ⌜ a ≡ telling (lowest (passing 0) (λ r. r) 1 (take n rs) undetermined) ⌝ }
+{
+    let first = first_passing(rs, n, 0);
+    if first < n {
+        let at = first as usize;
+        return told(rs[at], first + 1);
+    }
+    told(0, 0)
+}
+
+// The joint answer of n offices under a rule: 1 grant-first, 2 deny-first, any other first-applicable.
+fn joint_of(rs: [u32; OFFICES], n: u32, rule: u32) -> Answer
+    requires { ⌜ (length rs ≡ maxOffices) × (n ≤ maxOffices) ⌝ }
+    ensures { λ a. ⌜ a ≡ telling (jointly rule (take n rs)) ⌝ }
+{
+    if rule == 1 {
+        return side_first(rs, n, 1, 2);
+    }
+    if rule == 2 {
+        return side_first(rs, n, 2, 1);
+    }
+    first_applicable(rs, n)
+}
+
+// Question 2 on a sheet that was checked.
+fn joint_checked(sheet: &[u32], edges: &[u32], h: Header, q: Question) -> Answer
+    requires { ⌜ WellFormed (now sheet) (now edges) h ⌝ }
+    ensures { λ a. ⌜ Replies (plain (jointFault (now (sheet .entry)) q)) (λ value count. JointIs (seenAt (now (sheet .entry))) (headerOf (now (sheet .entry)) .offices) (q .rule) (q .person) (q .deed) (q .folio) (record { answer = value; office = count })) a ⌝ }
+{
+    if (q.rule < 1) | (3 < q.rule) {
+        return refused_by(27);
+    }
+    let p = places_of(sheet, h, true, 0, 1, q);
+    let n = unknown_of(h, p);
+    if n != 0 {
+        return refused_by(n);
+    }
+    joint_of(answers_of(sheet, edges, h, q), h.offices, q.rule)
+}
+
+// Question 2, the joint answer under rule 1, 2 or 3: the answer in `value`, the deciding office in `count`.
+pub fn joint_answer(sheet: &[u32], q: Question) -> Answer
+    ensures { λ a. ⌜ Replies (afterSheet (now (sheet .entry)) (jointFault (now (sheet .entry)) q)) (λ value count. JointIs (seenAt (now (sheet .entry))) (headerOf (now (sheet .entry)) .offices) (q .rule) (q .person) (q .deed) (q .folio) (record { answer = value; office = count })) a ⌝ }
+{
+    let r = verdict::check(sheet);
+    if r.number != 0 {
+        return refused(r);
+    }
+    let h = sheet::header_of(sheet);
+    let from = h.edgeoffset as usize;
+    joint_checked(sheet, &sheet[from..], h, q)
+}
+
+// Writes the two words of each of the first n rows that are named, number and variant.
+fn write_nodes(sheet: &[u32], h: Header, rows: [u32; ROWS], n: usize, out: &mut [u32])
+    requires { ⌜ NodesFormed (now sheet) h × RowsIn (h .nodes) rows n × (n ≤ length rows) × (2 * n ≤ length (now out)) ⌝ }
+    ensures { λ _. ⌜ now (out .exit) ≡ nodeWords (now (sheet .entry)) (take n rows) ++ drop (2 * n) (now (out .entry)) ⌝ }
+{
+    let mut i: usize = 0;
+    while i < n {
+        let r = sheet::node_at(sheet, rows[i] as usize);
+        out[2 * i] = r.number;
+        out[2 * i + 1] = r.variant;
+        i += 1;
+    }
+}
+
+// The rows of the best path from the person's row on, in front.
+fn path_rows(
+    sheet: &[u32],
+    edges: &[u32],
+    h: Header,
+    k: u32,
+    mark: u32,
+    q: Question,
+    d: [u32; ROWS],
+    rp: u32,
+    rf: u32,
+) -> [u32; ROWS]
+    requires { ⌜ AtOffice (now sheet) (now edges) h k mark × Placed (now sheet) q rp rf × Measured (now sheet) (now edges) h k q rf d × (0 < getD d rp 0) ⌝ }
+    ensures { λ r. ⌜ PathRows (now (sheet .entry)) (h .nodes) k q (getD d rp 0) r ⌝ }
+{
+    let mut rows = [0u32; ROWS];
+    let w = walk_for(mark, q.kind, q.deed);
+    walk::trace(sheet, edges, h, w, &d, rp, &mut rows);
+    rows
+}
+
+// Question 3 where the question stands: 26 where there is no path, 25 where it is longer than the output.
+fn witness_at(
+    sheet: &[u32],
+    edges: &[u32],
+    h: Header,
+    k: u32,
+    mark: u32,
+    q: Question,
+    rp: u32,
+    rf: u32,
+    out: &mut [u32],
+) -> Answer
+    requires { ⌜ AtOffice (now sheet) (now edges) h k mark × Placed (now sheet) q rp rf ⌝ }
+    ensures { λ a. ⌜ Shows none (WitnessIs (seenAt (now (sheet .entry)) (suc k)) (sideOf (q .kind)) (q .person) (q .deed) (q .folio)) (now (out .entry)) a (now (out .exit)) ⌝ }
+{
+    let w = walk_for(mark, q.kind, q.deed);
+    let d = measured(sheet, edges, h, w, rf);
+    let i = rp as usize;
+    let n = d[i];
+    if n == 0 {
+        return refused_by(26);
+    }
+    let rows = path_rows(sheet, edges, h, k, mark, q, d, rp, rf);
+    let m = n as usize;
+    if out.len() < 2 * m {
+        return refused_by(25);
+    }
+    write_nodes(sheet, h, rows, m, out);
+    told(0, 2 * n)
+}
+
+// Question 3 on a sheet that was checked.
+fn witness_checked(sheet: &[u32], edges: &[u32], h: Header, q: Question, out: &mut [u32]) -> Answer
+    requires { ⌜ WellFormed (now sheet) (now edges) h ⌝ }
+    ensures { λ a. ⌜ Shows (plain (askFault (now (sheet .entry)) q)) (WitnessIs (seenAt (now (sheet .entry)) (q .office)) (sideOf (q .kind)) (q .person) (q .deed) (q .folio)) (now (out .entry)) a (now (out .exit)) ⌝ }
+{
+    let t = stand_of(sheet, h, q);
+    if t.number != 0 {
+        return refused_by(t.number);
+    }
+    witness_at(sheet, edges, h, t.office, t.mark, q, t.person, t.folio, out)
+}
+
+// Question 3, the witness of a grant or a ban: the path with fewest nodes, first in dictionary order, two words a node; how many words in `count`.
+pub fn witness(sheet: &[u32], q: Question, out: &mut [u32]) -> Answer
+    ensures { λ a. ⌜ Shows (afterSheet (now (sheet .entry)) (askFault (now (sheet .entry)) q)) (WitnessIs (seenAt (now (sheet .entry)) (q .office)) (sideOf (q .kind)) (q .person) (q .deed) (q .folio)) (now (out .entry)) a (now (out .exit)) ⌝ }
+{
+    let r = verdict::check(sheet);
+    if r.number != 0 {
+        return refused(r);
+    }
+    let h = sheet::header_of(sheet);
+    let from = h.edgeoffset as usize;
+    witness_checked(sheet, &sheet[from..], h, q, out)
+}
+
+// A node row of an identity, of no office.
+fn named(class: u32, number: u32, variant: u32) -> Node
+    ensures { λ r. ⌜ nodeKey r ≡ identity class number variant ⌝ }
+{
+    Node {
+        class: class,
+        number: number,
+        variant: variant,
+        offices: 0,
+    }
+}
+
+// Whether an edge row has the kind and the mark and runs from one identity to the other.
+fn is_row_of(
+    sheet: &[u32],
+    edges: &[u32],
+    h: Header,
+    mark: u32,
+    kind: u32,
+    a: Node,
+    b: Node,
+    j: usize,
+) -> bool
+    requires { ⌜ WellFormed (now sheet) (now edges) h × (0 < mark) × (j < h .edges) ⌝ }
+    ensures { λ r. ⌜ r ≡ rowOf (now (sheet .entry)) (now (edges .entry)) mark kind a b j ⌝ }
+{
+    let e = sheet::edge_at(edges, h, j);
+    let from = sheet::node_at(sheet, e.from as usize);
+    let to = sheet::node_at(sheet, e.to as usize);
+    (e.kind == kind)
+        & ((e.offices / mark % 2 == 1) & (sheet::same_node(from, a) & sheet::same_node(to, b)))
+}
+
+// Whether office k + 1 has the relation of a kind between two identities.
+fn is_related(
+    sheet: &[u32],
+    edges: &[u32],
+    h: Header,
+    k: u32,
+    mark: u32,
+    kind: u32,
+    a: Node,
+    b: Node,
+) -> bool
+    requires { ⌜ AtOffice (now sheet) (now edges) h k mark ⌝ }
+    ensures { λ r. ⌜ r ≡ seenAt (now (sheet .entry)) (suc k) .edge (relation kind (nodeKey a) (nodeKey b)) ⌝ }
+{
+    let n = h.edges as usize;
+    let mut j: usize = 0;
+    while j < n {
+        if is_row_of(sheet, edges, h, mark, kind, a, b, j) {
+            return true;
+        }
+        j += 1;
+    }
+    false
+}
+
+// Whether the person is a member of the category.
+fn is_member(sheet: &[u32], edges: &[u32], h: Header, k: u32, mark: u32, p: u32, c: u32) -> bool
+    requires { ⌜ AtOffice (now sheet) (now edges) h k mark ⌝ }
+    ensures { λ r. ⌜ r ≡ member (seenAt (now (sheet .entry)) (suc k)) p c ⌝ }
+{
+    let a = named(1, p, 0);
+    let b = named(2, c, 0);
+    is_related(sheet, edges, h, k, mark, 1, a, b)
+}
+
+// Whether a side's paths lead from the one category to the other.
+fn is_step(
+    sheet: &[u32],
+    edges: &[u32],
+    h: Header,
+    k: u32,
+    mark: u32,
+    kind: u32,
+    c: u32,
+    d: u32,
+) -> bool
+    requires { ⌜ AtOffice (now sheet) (now edges) h k mark ⌝ }
+    ensures { λ r. ⌜ r ≡ step (seenAt (now (sheet .entry)) (suc k)) (sideOf kind) c d ⌝ }
+{
+    let a = named(2, c, 0);
+    let b = named(2, d, 0);
+    if kind == 0 {
+        return is_related(sheet, edges, h, k, mark, 2, a, b);
+    }
+    is_related(sheet, edges, h, k, mark, 2, b, a)
+}
+
+// Whether a category has the side's right on the question's deed in the variant, which applies to the folio.
+fn is_carried(
+    sheet: &[u32],
+    edges: &[u32],
+    h: Header,
+    k: u32,
+    mark: u32,
+    q: Question,
+    v: u32,
+    c: u32,
+) -> bool
+    requires { ⌜ AtOffice (now sheet) (now edges) h k mark ⌝ }
+    ensures { λ r. ⌜ r ≡ carries (seenAt (now (sheet .entry)) (suc k)) (sideOf (q .kind)) (q .deed) v (q .folio) c ⌝ }
+{
+    let w = walk_for(mark, q.kind, q.deed);
+    let a = named(2, c, 0);
+    let b = named(3, q.deed, v);
+    let t = named(4, q.folio, 0);
+    is_related(sheet, edges, h, k, mark, w.right, a, b)
+        & is_related(sheet, edges, h, k, mark, 5, b, t)
+}
+
+// Whether a number is one of every second word, m of them from a place on.
+fn is_among(list: &[u32], from: usize, m: usize, c: u32) -> bool
+    requires { ⌜ from + 2 * m ≤ length (now list) ⌝ }
+    ensures { λ r. ⌜ r ≡ among c (everySecond (now (list .entry)) from m) ⌝ }
+{
+    let mut at = from;
+    let mut left = m;
+    while 0 < left {
+        if c == list[at] {
+            return true;
+        }
+        at += 2;
+        left -= 1;
+    }
+    false
+}
+
+// Whether every second word is 0, m of them from a place on.
+fn is_plain(list: &[u32], from: usize, m: usize) -> bool
+    requires { ⌜ from + 2 * m ≤ length (now list) ⌝ }
+    ensures { λ r. ⌜ r ≡ plainFrom (now (list .entry)) from m ⌝ }
+{
+    let mut at = from;
+    let mut left = m;
+    while 0 < left {
+        if list[at] != 0 {
+            return false;
+        }
+        at += 2;
+        left -= 1;
+    }
+    true
+}
+
+// Whether the words before and behind the categories, m of them after the first, are the question's person, deed and folio.
+fn is_framed(list: &[u32], m: usize, q: Question) -> bool
+    requires { ⌜ length (now list) ≡ 8 + 2 * m ⌝ }
+    ensures { λ r. ⌜ r ≡ framed (now (list .entry)) m (q .person) (q .deed) (q .folio) ⌝ }
+{
+    (list[0] == q.person)
+        & ((list[1] == 0)
+            & ((list[4 + 2 * m] == q.deed)
+                & ((list[6 + 2 * m] == q.folio) & (list[7 + 2 * m] == 0))))
+}
+
+// Whether the category at a place leads to the next and is none of the m after it.
+fn is_onward(
+    sheet: &[u32],
+    edges: &[u32],
+    h: Header,
+    k: u32,
+    mark: u32,
+    kind: u32,
+    list: &[u32],
+    at: usize,
+    m: usize,
+) -> bool
+    requires { ⌜ AtOffice (now sheet) (now edges) h k mark × (0 < m) × (at + 2 + 2 * m ≤ length (now list)) ⌝ }
+    ensures { λ r. ⌜ r ≡ goesOn (seenAt (now (sheet .entry)) (suc k)) (sideOf kind) (now (list .entry)) at m ⌝ }
+{
+    let c = list[at];
+    let d = list[at + 2];
+    if is_among(list, at + 2, m, c) {
+        return false;
+    }
+    is_step(sheet, edges, h, k, mark, kind, c, d)
+}
+
+// Whether the first category leads by the m after it, all distinct, to one with the right. The way is tried from its end, so that a list of any length costs no more turns than there are categories.
+fn is_way(
+    sheet: &[u32],
+    edges: &[u32],
+    h: Header,
+    k: u32,
+    mark: u32,
+    q: Question,
+    list: &[u32],
+    m: usize,
+) -> bool
+    requires { ⌜ AtOffice (now sheet) (now edges) h k mark × (length (now list) ≡ 8 + 2 * m) ⌝ }
+    ensures { λ r. ⌜ r ≡ wayFrom (seenAt (now (sheet .entry)) (suc k)) (sideOf (q .kind)) (q .deed) (getD (now (list .entry)) (5 + 2 * m) 0) (q .folio) (now (list .entry)) 2 m ⌝ }
+{
+    let v = list[5 + 2 * m];
+    let c = list[2 + 2 * m];
+    if !is_carried(sheet, edges, h, k, mark, q, v, c) {
+        return false;
+    }
+    let mut n: usize = 0;
+    while n < m {
+        let at = 2 * (m - n);
+        n += 1;
+        if !is_onward(sheet, edges, h, k, mark, q.kind, list, at, n) {
+            return false;
+        }
+    }
+    true
+}
+
+// Whether the words are some path of office k + 1.
+fn is_path_at(
+    sheet: &[u32],
+    edges: &[u32],
+    h: Header,
+    k: u32,
+    mark: u32,
+    q: Question,
+    list: &[u32],
+) -> bool
+    requires { ⌜ AtOffice (now sheet) (now edges) h k mark ⌝ }
+    ensures { λ r. ⌜ r ≡ isPath (seenAt (now (sheet .entry)) (suc k)) (sideOf (q .kind)) (q .person) (q .deed) (q .folio) (now (list .entry)) ⌝ }
+{
+    let n = list.len();
+    if (n < 8) | (n % 2 == 1) {
+        return false;
+    }
+    let m = (n - 8) / 2;
+    if !is_framed(list, m, q) {
+        return false;
+    }
+    if !is_plain(list, 3, m + 1) {
+        return false;
+    }
+    if !is_member(sheet, edges, h, k, mark, q.person, list[2]) {
+        return false;
+    }
+    is_way(sheet, edges, h, k, mark, q, list, m)
+}
+
+// Question 4 on a sheet that was checked.
+fn is_path_checked(sheet: &[u32], edges: &[u32], h: Header, q: Question, list: &[u32]) -> Answer
+    requires { ⌜ WellFormed (now sheet) (now edges) h ⌝ }
+    ensures { λ a. ⌜ Replies (plain (badOffice (headerOf (now (sheet .entry))) (q .office))) (λ value count. (value ≡ numberOf (isPath (seenAt (now (sheet .entry)) (q .office)) (sideOf (q .kind)) (q .person) (q .deed) (q .folio) (now (list .entry)))) × (count ≡ 0)) a ⌝ }
+{
+    let n = bad_office(h, q.office);
+    if n != 0 {
+        return refused_by(n);
+    }
+    let k = q.office - 1;
+    let mark = mark_of(k);
+    if is_path_at(sheet, edges, h, k, mark, q, list) {
+        return told(1, 0);
+    }
+    told(0, 0)
+}
+
+// Question 4, whether a list of words is some grant or ban path: 1 yes, 0 no, in `value`.
+pub fn is_path(sheet: &[u32], q: Question, list: &[u32]) -> Answer
+    ensures { λ a. ⌜ Replies (afterSheet (now (sheet .entry)) (badOffice (headerOf (now (sheet .entry))) (q .office))) (λ value count. (value ≡ numberOf (isPath (seenAt (now (sheet .entry)) (q .office)) (sideOf (q .kind)) (q .person) (q .deed) (q .folio) (now (list .entry)))) × (count ≡ 0)) a ⌝ }
+{
+    let r = verdict::check(sheet);
+    if r.number != 0 {
+        return refused(r);
+    }
+    let h = sheet::header_of(sheet);
+    let from = h.edgeoffset as usize;
+    is_path_checked(sheet, &sheet[from..], h, q, list)
+}
