@@ -1,13 +1,13 @@
 -- A trail of arcs from a person's row to a folio's is a path of the office, written in its words; and each path is such a trail.
 -- Assumes nothing.
-use Prim.Native.Nat.{ℕ, zero, suc, _+_, _*_, _<_, _≤_}
+use Prim.Native.Nat.{ℕ, suc, _+_, _<_, _≤_}
 use native.Mathlib.Omega.{arith}
-use mathlib.Core.Path.{_≡_, refl, sym, ap, ap₂, subst, _∙_}
-use mathlib.Core.Bool.{Bool, true, false, not, _&&_, true≢false, false≢true}
+use mathlib.Core.Path.{_≡_, sym, ap, subst, _∙_}
+use mathlib.Core.Bool.{true, false, not, false≢true}
 use mathlib.Core.List.{List, [], _∷_, _++_}
 use mathlib.Core.Logic.{_⊎_, inl, inr}
 use lib.Dec.{eqb}
-use lib.ListN.{length, length-append}
+use lib.ListN.{length}
 use borrow.Author.Tests.{eqb-true}
 use Rattle.tables.specs.Key.{Key}
 use Rattle.tables.specs.Office.{View}
@@ -19,10 +19,10 @@ use Rattle.paths.specs.Best.{Trail, ends, goes}
 use Rattle.paths.proofs.Tests.{and-left, and-right, both, or-cases, either}
 use Rattle.paths.proofs.Ways.{first-step, shortened}
 use Rattle.meaning.specs.Paths.{Side, person, category, deed, folio, member, right, applies, step, carries, path, pairs, spell, isPath, HasPath}
-use Rattle.meaning.proofs.Spelling.{Onward, onward, has-path, Spells, spelt, spells}
+use Rattle.meaning.proofs.Spelling.{has-path, spelt}
 use Rattle.walk.specs.Arcs.{Steps}
 use Rattle.ask.specs.Written.{nodeWords}
-use Rattle.ask.proofs.Links.{walkFor, Link, joins, climbs, gives-right, serves, link-of, Onto, member-arc, step-arc, right-arc, applies-arc, same-row}
+use Rattle.ask.proofs.Links.{walkFor, Link, joins, climbs, gives-right, serves, link-of, member-arc, step-arc, right-arc, applies-arc, same-row}
 
 -- a row's two words, by its key
 named : (s : List ℕ) (i t n v : ℕ) (rows : List ℕ) → nodeKeyAt s i ≡ t ∷ n ∷ v ∷ [] → nodeWords s (i ∷ rows) ≡ n ∷ v ∷ nodeWords s rows

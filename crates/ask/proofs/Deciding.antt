@@ -1,43 +1,38 @@
 -- What the numbers of a walk back from the folio decide: whether there is a path, and the witness.
 -- Assumes nothing.
-use Prim.Native.Nat.{ℕ, zero, suc, _+_, _^_, _<_, _≤_}
+use Prim.Native.Nat.{ℕ, zero, suc, _^_, _<_, _≤_}
 use native.Mathlib.Omega.{arith}
-use mathlib.Core.Path.{_≡_, refl, sym, ap, subst, _∙_}
-use mathlib.Core.Bool.{Bool, true, false, not, _&&_, _||_, true≢false, false≢true}
-use mathlib.Core.List.{List, [], _∷_}
-use mathlib.Core.Logic.{_⊎_, inl, inr, ⊎-elim}
+use mathlib.Core.Path.{_≡_, refl, ap, subst, _∙_}
+use mathlib.Core.Bool.{Bool, true, false, not, true≢false, false≢true}
+use mathlib.Core.List.{List}
+use mathlib.Core.Logic.{_⊎_, ⊎-elim}
 use lib.Dec.{eqb}
 use lib.ListN.{length, getD, set, replicate, length-set}
 use lib.Seq.{getD-set-same, getD-set-other}
 use Rattle.sheet.specs.Limits.{maxNodes}
-use borrow.Author.Tests.{eqb-true, eqb-false, eq-eqb, ne-eqb}
-use Rattle.tables.specs.Key.{Key, identity}
-use Rattle.tables.specs.Marks.{marked}
-use Rattle.tables.specs.Office.{View}
-use Rattle.tables.proofs.Tables.{MarkedRow}
+use borrow.Author.Tests.{eqb-true, eqb-false, eq-eqb}
+use Rattle.tables.specs.Key.{identity}
 use Rattle.sheet.specs.declared.Header.{Header}
 use Rattle.sheet.specs.declared.Node.{Node}
-use Rattle.sheet.specs.Rows.{headerOf, nodeAt, edgeTable, nodeKeyAt}
+use Rattle.sheet.specs.Rows.{headerOf, nodeAt, edgeTable}
 use Rattle.sheet.specs.Accepted.{WellFormed, Accepted}
 use Rattle.sheet.specs.Named.{nodeRow, seenAt}
 use Rattle.sheet.proofs.Naming.{node-seen, ends-seen}
 use Rattle.paths.specs.Steps.{Layers, Starts}
-use Rattle.paths.specs.Best.{Trail, Best}
-use Rattle.paths.proofs.Tests.{and-left, and-right, both, or-left, or-right}
+use Rattle.paths.proofs.Tests.{and-left, and-right, both}
 use Rattle.paths.proofs.Distances.{zero-or, layers-map}
 use Rattle.paths.proofs.Trails.{listed, numbered}
-use Rattle.meaning.specs.Paths.{Side, grant, ban, rightKind, person, category, deed, folio, member, right, applies, carries, HasPath}
-use Rattle.meaning.specs.Answers.{Says, answered, AnswerIs}
-use Rattle.meaning.proofs.Spelling.{onward}
+use Rattle.meaning.specs.Paths.{Side, grant, ban, rightKind, person, deed, folio, right, HasPath}
+use Rattle.meaning.specs.Answers.{Says}
 use Rattle.meaning.proofs.Axioms.{a1-a2}
 use Rattle.walk.specs.declared.Walk.{Walk}
 use Rattle.walk.specs.Arcs.{Steps}
 use Rattle.walk.proofs.Walking.{turned-layers}
 use Rattle.ask.specs.declared.Question.{Question}
-use Rattle.ask.specs.Asked.{stands, known, someRow, sideOf}
+use Rattle.ask.specs.Asked.{stands, known, sideOf}
 use Rattle.ask.specs.Placed.{Placed, Target}
 use Rattle.ask.proofs.Links.{walkFor}
-use Rattle.ask.proofs.Bridge.{Laid, trail-path, path-trail}
+use Rattle.ask.proofs.Bridge.{trail-path, path-trail}
 use Rattle.ask.proofs.Known.{some-at}
 
 -- the words alone: their own edge table and header

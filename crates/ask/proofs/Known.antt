@@ -1,17 +1,15 @@
 -- Which identities an office knows: what a search for a row tells.
 -- Assumes nothing.
-use Prim.Native.Nat.{ℕ, zero, suc, _+_, _/_, _%_, _^_, _<_, _≤_}
+use Prim.Native.Nat.{ℕ, zero, suc, _/_, _%_, _^_, _<_, _≤_}
 use native.Mathlib.Omega.{arith}
 use native.Mathlib.Decide.{decLt}
-use mathlib.Core.Path.{_≡_, refl, sym, ap, subst, _∙_}
-use mathlib.Core.Bool.{Bool, true, false, _&&_, _||_, true≢false}
+use mathlib.Core.Path.{_≡_, refl, sym, subst}
+use mathlib.Core.Bool.{Bool, true, false, _&&_, _||_}
 use mathlib.Core.List.{List}
 use lib.Dec.{eqb}
-use borrow.Author.Tests.{eqb-true}
-use Rattle.tables.specs.Marks.{marked}
 use Rattle.sheet.specs.declared.Node.{Node}
-use Rattle.sheet.specs.Rows.{headerOf, nodeAt}
-use Rattle.paths.proofs.Tests.{and-left, and-right, or-left, or-right}
+use Rattle.sheet.specs.Rows.{nodeAt}
+use Rattle.paths.proofs.Tests.{or-left, or-right}
 use Rattle.ask.specs.Asked.{stands, someRow, known, FirstStanding}
 
 -- the test that the code makes at a row is the definition's

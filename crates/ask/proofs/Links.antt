@@ -3,24 +3,20 @@
 use Prim.Native.Nat.{ℕ, zero, suc, _+_, _/_, _%_, _^_, _<_, _≤_}
 use native.Mathlib.Omega.{arith}
 use mathlib.Core.Path.{_≡_, refl, sym, ap, subst, _∙_}
-use mathlib.Core.Bool.{Bool, true, false, not, _&&_, _||_, cond, true≢false, false≢true}
-use mathlib.Core.List.{List, [], _∷_, _++_}
-use mathlib.Core.Logic.{_⊎_, inl, inr}
+use mathlib.Core.Bool.{Bool, true, false, not, _&&_, _||_, cond}
+use mathlib.Core.List.{List}
 use lib.Dec.{eqb}
-use borrow.Author.Tests.{eqb-true, eqb-false, eq-eqb, ne-eqb}
+use borrow.Author.Tests.{eqb-true, eq-eqb, ne-eqb}
 use Rattle.tables.specs.Key.{Key, identity, relation}
 use Rattle.tables.specs.Marks.{marked}
 use Rattle.tables.specs.Office.{View}
 use Rattle.tables.proofs.Keys.{one-row}
-use Rattle.tables.proofs.Tables.{MarkedRow}
-use Rattle.sheet.specs.declared.Node.{Node}
 use Rattle.sheet.specs.declared.Edge.{Edge}
 use Rattle.sheet.specs.Rows.{headerOf, nodeAt, edgeAt, edgeTable, nodeKeyAt, endsFit}
 use Rattle.sheet.specs.Accepted.{Accepted}
 use Rattle.sheet.specs.Named.{edgeRow, seenAt}
 use Rattle.sheet.proofs.Naming.{edge-seen, seen-edge}
-use Rattle.paths.specs.Steps.{Via}
-use Rattle.paths.proofs.Tests.{and-left, and-right, both, or-cases, or-left, or-right}
+use Rattle.paths.proofs.Tests.{and-left, and-right, both, or-left, or-right}
 use Rattle.meaning.specs.Paths.{Side, grant, ban, rightKind, person, category, deed, folio, member, contained, right, applies, step}
 use Rattle.walk.specs.declared.Walk.{Walk}
 use Rattle.walk.specs.declared.Arc.{Arc}

@@ -1,14 +1,14 @@
 -- What the rows that a search found tell: who is unknown, and that an office which does not know one of them is undetermined.
 -- Assumes nothing.
-use Prim.Native.Nat.{ℕ, zero, suc, _+_, _^_, _<_, _≤_}
+use Prim.Native.Nat.{ℕ, _<_, _≤_}
 use native.Mathlib.Omega.{arith}
 use mathlib.Core.Path.{_≡_, refl, sym, ap, subst, _∙_}
-use mathlib.Core.Bool.{Bool, true, false, not, _&&_, _||_, true≢false, false≢true}
+use mathlib.Core.Bool.{Bool, true, false, not}
 use mathlib.Core.List.{List}
 use lib.Dec.{ltb}
 use native.Mathlib.Decide.{decLt}
 use Rattle.sheet.specs.declared.Header.{Header}
-use Rattle.sheet.specs.Refusals.{_when_otherwise_, _below_}
+use Rattle.sheet.specs.Refusals.{_when_otherwise_}
 use Rattle.sheet.specs.Rows.{headerOf}
 use Rattle.sheet.specs.Accepted.{WellFormed, Accepted}
 use Rattle.sheet.specs.Named.{seenAt}
@@ -18,7 +18,7 @@ use Rattle.meaning.specs.Paths.{Side, grant, ban, HasPath}
 use Rattle.meaning.specs.Answers.{Says, answered, AnswerIs}
 use Rattle.ask.specs.declared.Question.{Question}
 use Rattle.ask.specs.declared.Places.{Places}
-use Rattle.ask.specs.Asked.{stands, known, unknown, someRow, sideOf, FirstStanding}
+use Rattle.ask.specs.Asked.{known, unknown, someRow, sideOf, FirstStanding}
 use Rattle.ask.specs.Placed.{Placed, FoundAll, unfound}
 use Rattle.ask.proofs.Known.{seek-known, seek-unknown}
 use Rattle.ask.proofs.Deciding.{path-known, placed-by, words-of, nodes-same}

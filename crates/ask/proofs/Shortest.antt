@@ -4,7 +4,7 @@ use Prim.Native.Nat.{ℕ, zero, suc, _+_, _*_, _<_, _≤_}
 use native.Mathlib.Omega.{arith}
 use native.Mathlib.Decide.{decLt}
 use mathlib.Core.Path.{_≡_, refl, sym, ap, subst, _∙_}
-use mathlib.Core.Bool.{Bool, true, false, _&&_, true≢false, false≢true}
+use mathlib.Core.Bool.{true, false, false≢true}
 use mathlib.Core.List.{List, [], _∷_}
 use lib.Dec.{eqb, ltb}
 use lib.ListN.{length}
@@ -15,7 +15,7 @@ use Rattle.tables.proofs.Keys.{Ahead, first, rest, ahead, rises}
 use Rattle.sheet.specs.Rows.{headerOf, nodeAt, edgeTable, nodeKeyAt}
 use Rattle.sheet.specs.Accepted.{Accepted}
 use Rattle.sheet.specs.Named.{seenAt}
-use Rattle.paths.specs.Best.{Trail, ends, goes, Before, none, less, same, Best}
+use Rattle.paths.specs.Best.{Trail, ends, goes, Before, less, same, Best}
 use Rattle.paths.proofs.Tests.{both}
 use Rattle.meaning.specs.Paths.{Side, person, category, deed, folio, member, path, spell, isPath}
 use Rattle.meaning.specs.Forms.{fewer}
@@ -26,7 +26,7 @@ use Rattle.walk.specs.Arcs.{Steps}
 use Rattle.walk.proofs.Walking.{step-inside}
 use Rattle.ask.specs.Written.{nodeWords}
 use Rattle.ask.proofs.Links.{walkFor, Link, joins, climbs, gives-right, serves, link-of, member-arc}
-use Rattle.ask.proofs.Bridge.{Goes, Laid, lay, FromPerson, person-read, path-trail, short-leads}
+use Rattle.ask.proofs.Bridge.{Goes, lay, FromPerson, person-read, path-trail, short-leads}
 
 pub words-long : (s rows : List ℕ) → length (nodeWords s rows) ≡ 2 * length rows
 unfolding nodeWords

@@ -1,23 +1,23 @@
 -- What the trace of a path shows: the rows of the best trail, whose words are the witness.
 -- Assumes nothing.
-use Prim.Native.Nat.{ℕ, zero, suc, _+_, _*_, _^_, _<_, _≤_}
+use Prim.Native.Nat.{ℕ, zero, suc, _+_, _*_, _<_, _≤_}
 use native.Mathlib.Omega.{arith}
 use mathlib.Core.Path.{_≡_, refl, sym, ap, subst, _∙_}
-use mathlib.Core.Bool.{Bool, true, false}
-use mathlib.Core.List.{List, [], _∷_, _++_}
+use mathlib.Core.Bool.{true, false}
+use mathlib.Core.List.{List, [], _∷_}
 use lib.ListN.{length, getD, set, take, drop, length-append}
 use lib.Seq.{take-at, getD-take, sets, length-take-le}
 use Rattle.sheet.specs.declared.Header.{Header}
 use Rattle.sheet.specs.Limits.{maxNodes}
-use Rattle.sheet.specs.Rows.{headerOf, nodeAt, edgeTable, nodeKeyAt}
-use Rattle.sheet.specs.Accepted.{WellFormed, Accepted}
+use Rattle.sheet.specs.Rows.{nodeAt, edgeTable}
+use Rattle.sheet.specs.Accepted.{WellFormed}
 use Rattle.sheet.specs.Named.{seenAt}
 use Rattle.paths.specs.Steps.{Layers, Starts}
 use Rattle.paths.specs.Best.{Trail, ends, goes, Best, Traced}
 use Rattle.paths.proofs.Distances.{started, starts, layers-map}
 use Rattle.paths.proofs.Bounds.{number-bound}
 use Rattle.paths.proofs.Trails.{sized}
-use Rattle.meaning.specs.Paths.{Side, HasPath, rightKind}
+use Rattle.meaning.specs.Paths.{Side, rightKind}
 use Rattle.meaning.specs.Questions.{WitnessIs}
 use Rattle.walk.specs.declared.Walk.{Walk}
 use Rattle.walk.specs.Arcs.{Steps, Ready}

@@ -1,19 +1,18 @@
 -- Any two answers that a statement allows are equal, and so is what they leave in the output.
 -- Assumes nothing.
-use Prim.Native.Nat.{ℕ, _<_, _≤_}
+use Prim.Native.Nat.{ℕ}
 use native.Mathlib.Omega.{arith}
-use mathlib.Core.Path.{_≡_, refl, sym, ap, ap₂, subst, _∙_}
+use mathlib.Core.Path.{_≡_, refl, sym, ap, ap₂, _∙_}
 use mathlib.Core.List.{List, _++_}
 use lib.ListN.{length, drop}
 use Rattle.sheet.specs.declared.Refusal.{Refusal}
-use Rattle.sheet.specs.Named.{seenAt}
 use Rattle.tables.specs.Office.{View}
 use Rattle.meaning.specs.Paths.{Side}
 use Rattle.meaning.specs.Answers.{AnswerIs, Joint, JointIs}
 use Rattle.meaning.specs.Questions.{WitnessIs}
 use Rattle.meaning.proofs.Unique.{answer-one, joint-one, witness-one}
 use Rattle.ask.specs.declared.Answer.{Answer}
-use Rattle.ask.specs.Replies.{refusedBy, tells, Replies, refused, answered, Shows, missing, short, written}
+use Rattle.ask.specs.Replies.{tells, Replies, refused, answered, Shows, missing, short, written}
 
 module _ (r : Refusal) (P : ℕ → ℕ → Type 0) (one : (v c v′ c′ : ℕ) → P v c → P v′ c′ → tells v c ≡ tells v′ c′) where
   pub replies-one : {a b : Answer} → Replies r P a → Replies r P b → a ≡ b

@@ -3,11 +3,11 @@
 use Prim.Native.Nat.{ℕ, zero, suc, _+_, _-_, _^_, _<_, _≤_}
 use native.Mathlib.Omega.{arith}
 use mathlib.Core.Path.{_≡_, refl, sym, ap, subst, _∙_}
-use mathlib.Core.Bool.{Bool, true, false, not, _&&_, _||_}
+use mathlib.Core.Bool.{false, not}
 use mathlib.Core.List.{List, _++_}
 use lib.Dec.{ltb}
 use lib.ListN.{length, take, drop}
-use borrow.Author.Tests.{lt-ltb, le-ltb, ltb-false}
+use borrow.Author.Tests.{le-ltb, ltb-false}
 use Rattle.sheet.specs.declared.Refusal.{Refusal}
 use Rattle.sheet.specs.declared.Header.{Header}
 use Rattle.sheet.specs.Refusals.{_when_otherwise_, _orElse_, none, refuse, _then_}
@@ -24,7 +24,7 @@ use Rattle.ask.specs.declared.Answer.{Answer}
 use Rattle.ask.specs.declared.Places.{Places}
 use Rattle.ask.specs.declared.Stand.{Stand}
 use Rattle.ask.specs.Asked.{unknown, badOffice, askFault, plain, afterSheet}
-use Rattle.ask.specs.Placed.{Placed, FoundAll, unfound, StandsSo}
+use Rattle.ask.specs.Placed.{FoundAll, unfound, StandsSo}
 use Rattle.ask.specs.Replies.{refusedBy, tells, Replies, refused, answered, Shows, written, short, missing}
 use Rattle.ask.proofs.Placing.{unfound-unknown, placed-all}
 
@@ -38,11 +38,6 @@ plain-some (suc k) n e h = rw e
 pub plain-none : (k : ℕ) → k ≡ 0 → plain k .number ≡ 0
 unfolding refuse
 plain-none k e = rw e
-
-pub plain-set : (k : ℕ) → (k ≡ 0 → ⊥) → plain k .number ≡ 0 → ⊥
-unfolding refuse
-plain-set zero h e = h refl
-plain-set (suc k) h e = h e
 
 -- ---- after the sheet's own refusal
 

@@ -1,6 +1,6 @@
 -- Which answers a joint rule looks for, and how a joint answer is told.
 -- Assumes nothing.
-use Prim.Native.Nat.{ℕ, zero, suc}
+use Prim.Native.Nat.{ℕ}
 use mathlib.Core.Bool.{Bool, _||_, cond}
 use lib.Dec.{eqb, ltb}
 use Rattle.meaning.specs.Answers.{Joint}

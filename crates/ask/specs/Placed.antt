@@ -1,6 +1,6 @@
 -- What the inner functions of a question are handed.
 -- Assumes nothing.
-use Prim.Native.Nat.{ℕ, suc, _^_, _<_, _≤_}
+use Prim.Native.Nat.{ℕ, suc, _^_, _<_}
 use mathlib.Core.Path.{_≡_}
 use mathlib.Core.Bool.{Bool, not}
 use mathlib.Core.List.{List}

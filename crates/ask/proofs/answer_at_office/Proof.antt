@@ -1,5 +1,3 @@
-use mathlib.Core.Path.{sym, _∙_}
-use native.Mathlib.Omega.{arith}
 use borrow.Author.Needs.{needs}
 use Rattle.ask.proofs.Telling.{reply-bad, reply-good, opened-long, opened-room, opened-part}
 use Rattle.ask.proofs.answer_at_office.Statement.{statement}

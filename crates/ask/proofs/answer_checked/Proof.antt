@@ -1,7 +1,7 @@
 -- `ask::answer_checked` meets its contract.
 -- Assumes nothing.
 use Prim.Native.Nat.{ℕ}
-use mathlib.Core.Path.{_≡_, refl, sym, subst, _∙_}
+use mathlib.Core.Path.{refl, sym, subst, _∙_}
 use borrow.Author.Needs.{needs}
 use Rattle.ask.proofs.Deciding.{words-of}
 use Rattle.ask.proofs.Telling.{reply-refused, reply-told}

@@ -1,10 +1,8 @@
-use Prim.Native.Nat.{ℕ, _^_, _<_}
 use mathlib.Core.Bool.{true}
-use mathlib.Core.Path.{_≡_, refl, sym, ap, subst, _∙_}
+use mathlib.Core.Path.{_≡_, refl, ap, subst}
 use native.Mathlib.Omega.{arith}
 use borrow.Author.Needs.{needs}
 use Rattle.ask.proofs.Deciding.{reach-says, walk-is, nodes-same}
-use Rattle.ask.proofs.Links.{walkFor}
 use Rattle.ask.specs.Asked.{sideOf}
 use Rattle.paths.specs.Steps.{Layers}
 use Rattle.walk.specs.Arcs.{Steps}

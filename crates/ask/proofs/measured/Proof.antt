@@ -1,6 +1,6 @@
 -- `ask::measured` meets its contract: a walk back from one row.
 -- Assumes nothing.
-use mathlib.Core.Path.{_≡_, _∙_}
+use mathlib.Core.Path.{_∙_}
 use native.Mathlib.Omega.{arith}
 use borrow.Author.Needs.{needs}
 use Rattle.ask.proofs.Deciding.{target-low, target-layers}

@@ -1,6 +1,6 @@
 -- `ask::witness_at` meets its contract: a number of 0 means that there is no path, and else the rows traced are the path.
 -- Assumes nothing.
-use mathlib.Core.Path.{_≡_, refl, sym, ap, _∙_}
+use mathlib.Core.Path.{refl, ap}
 use native.Mathlib.Omega.{arith}
 use borrow.Author.Needs.{needs}
 use Rattle.ask.proofs.Deciding.{nodes-same}

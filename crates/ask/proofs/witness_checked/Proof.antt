@@ -1,6 +1,6 @@
 -- `ask::witness_checked` meets its contract.
 -- Assumes nothing.
-use mathlib.Core.Path.{_≡_, refl, sym, subst, _∙_}
+use mathlib.Core.Path.{refl, sym, _∙_}
 use borrow.Author.Needs.{needs}
 use Rattle.ask.proofs.Deciding.{words-of}
 use Rattle.ask.proofs.Telling.{show-refused, show-office, show-stands}
