@@ -94,3 +94,12 @@ module _ (arc : ℕ → Arc) (k limit : ℕ) (d : List ℕ) (at v best : ℕ) (n
 -- a step enters a node row
 pub step-inside : (s t : List ℕ) (h : Header) (w : Walk) (back : Bool) (a b : ℕ) → WellFormed s t h → Steps s t w back (h .edges) a b → b < h .nodes
 step-inside s t h w back a b f x = subst (λ (y : ℕ). y < h .nodes) (x .enters) (arc-inside s t h w back (x .row) f (x .inside) .1)
+
+-- the test of an arc that is better, and of one that is not
+pub bettered-yes : (a : Arc) (d : List ℕ) (at v best : ℕ) → (a .taken && (eqb (a .near) at && (eqb (getD d (a .far) 0) v && ltb (a .far) best))) ≡ true → a .far ≡ bettered a d at v best
+unfolding bettered
+bettered-yes a d at v best e = rw e
+
+pub bettered-no : (a : Arc) (d : List ℕ) (at v best : ℕ) → (a .taken && (eqb (a .near) at && (eqb (getD d (a .far) 0) v && ltb (a .far) best))) ≡ false → best ≡ bettered a d at v best
+unfolding bettered
+bettered-no a d at v best e = rw e
