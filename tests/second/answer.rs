@@ -7,6 +7,7 @@ use crate::closure::{has_path, witness};
 use crate::judge::judge_words;
 use crate::office::{Ask, Office, Side};
 use crate::sheet::words_of;
+use crate::survey::{is_survey, survey, REDUNDANT};
 use crate::trial::{Expected, Request};
 
 pub const ANSWER: u32 = 1;
@@ -29,11 +30,11 @@ pub struct Answer {
 }
 
 /// Only the sheet's own faults have a place.
-fn refusal(number: u32) -> Refusal {
+pub fn refusal(number: u32) -> Refusal {
     Refusal { number, sheet: 0, row: 0 }
 }
 
-fn insist(holds: bool, number: u32) -> Result<(), Refusal> {
+pub fn insist(holds: bool, number: u32) -> Result<(), Refusal> {
     if holds {
         Ok(())
     } else {
@@ -42,7 +43,12 @@ fn insist(holds: bool, number: u32) -> Result<(), Refusal> {
 }
 
 pub fn is_question(operation: u32) -> bool {
-    (ANSWER..=LISTED).contains(&operation)
+    (ANSWER..=REDUNDANT).contains(&operation)
+}
+
+/// Whether the answer goes into the output, so that its room counts.
+pub fn writes(operation: u32) -> bool {
+    is_question(operation) && operation >= WITNESS && operation != LISTED
 }
 
 /// What questions 3 and 4 name after the office: kind, person, deed, folio;
@@ -63,11 +69,14 @@ pub fn answer(
     if verdict.number != 0 {
         return Err(Refusal { number: verdict.number, sheet: 1, row: verdict.row });
     }
-    let ask = ask_of(operation, numbers);
     if operation == JOINT {
-        return joint_answer(words, numbers[0], &ask);
+        return joint_answer(words, numbers[0], &ask_of(operation, numbers));
     }
     insist((1..=words[1]).contains(&numbers[0]), 20)?;
+    if is_survey(operation) {
+        return survey(operation, numbers, words, room);
+    }
+    let ask = ask_of(operation, numbers);
     let office = Office::of(words, numbers[0]);
     let side = Side::of_word(numbers[1]);
     match operation {

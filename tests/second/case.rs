@@ -1,6 +1,6 @@
 //! What is put to the trial, case by case. A case of a check follows from the
-//! seed and its number alone; the questions come after the checks, so their
-//! numbers follow from how many of those there are.
+//! seed and its number alone; the questions come after the checks, 5 to 10 after
+//! 1 to 4, so their numbers follow from how many of those there are.
 
 use crate::answer;
 use crate::coverage::{self, Cell, CHECK_BYTES, CHECK_WORDS, UNKNOWN};
@@ -10,10 +10,11 @@ use crate::goals;
 use crate::judge::{judge_bytes, judge_words, Verdict};
 use crate::make;
 use crate::named::{self, Named};
-use crate::questions::Questions;
+use crate::questions::{Made, Questions};
 use crate::random::Random;
 use crate::scramble;
 use crate::sheet::{bytes_of, words_of};
+use crate::surveys::Surveys;
 use crate::trial::{Expected, Request, MOST_PAYLOAD};
 
 /// What is remembered of a case while its reply is on the way.
@@ -47,13 +48,14 @@ pub struct Case {
 }
 
 /// First the checks: the named cases, then one aimed at each cell of the
-/// coverage table, then the random ones. Then the questions.
+/// coverage table, then the random ones. Then questions 1 to 4, then 5 to 10.
 pub struct Plan {
     seed: u64,
     named: Vec<Named>,
     targets: Vec<Cell>,
     random: usize,
     questions: Questions,
+    surveys: Surveys,
 }
 
 type Maker = fn(&mut Random) -> Vec<u8>;
@@ -78,13 +80,14 @@ fn valid(random: &mut Random) -> Vec<u8> {
 }
 
 impl Plan {
-    pub fn new(seed: u64, random: usize, questions: usize) -> Plan {
+    pub fn new(seed: u64, random: usize, questions: usize, surveys: usize) -> Plan {
         let targets = coverage::needed()
             .into_iter()
             .filter(|cell| cell.number != 0 && cell.number != UNKNOWN)
             .collect();
+        let surveys = Surveys::new(seed, surveys);
         let questions = Questions::new(seed, questions);
-        Plan { seed, named: named::all(), targets, random, questions }
+        Plan { seed, named: named::all(), targets, random, questions, surveys }
     }
 
     /// How many cases there are of the checks alone.
@@ -92,13 +95,21 @@ impl Plan {
         self.named.len() + self.targets.len() + self.random
     }
 
-    pub fn len(&self) -> usize {
+    /// Where the cases of questions 5 to 10 begin.
+    pub fn before_surveys(&self) -> usize {
         self.checks() + self.questions.len()
     }
 
+    pub fn len(&self) -> usize {
+        self.before_surveys() + self.surveys.len()
+    }
+
     pub fn case(&self, number: usize) -> Case {
-        if number >= self.checks() {
-            return self.question_case(number);
+        if let Some(at) = number.checked_sub(self.before_surveys()) {
+            return asked_case(number, self.surveys.case(at));
+        }
+        if let Some(at) = number.checked_sub(self.checks()) {
+            return asked_case(number, self.questions.case(at));
         }
         let mut random = Random::for_case(self.seed, number as u64);
         let past_named = number.checked_sub(self.named.len());
@@ -123,14 +134,6 @@ impl Plan {
         case
     }
 
-    fn question_case(&self, number: usize) -> Case {
-        let (kind, name, request, own_fault) = self.questions.case(number - self.checks());
-        let mut case = judged(number, kind, name, request);
-        case.about.goals = goals::met(&case.request, &case.expected);
-        case.about.own_fault = own_fault;
-        case
-    }
-
     fn random_case(&self, random: &mut Random, number: usize) -> Case {
         let mut chance = random.below(100);
         for (kind, share, make) in KINDS {
@@ -142,6 +145,13 @@ impl Plan {
         let target = random.pick(&self.targets);
         aimed_case(random, number, "damaged", target)
     }
+}
+
+fn asked_case(number: usize, (kind, name, request, own_fault): Made) -> Case {
+    let mut case = judged(number, kind, name, request);
+    case.about.goals = goals::met(&case.request, &case.expected);
+    case.about.own_fault = own_fault;
+    case
 }
 
 fn aimed_case(random: &mut Random, number: usize, kind: &'static str, target: Cell) -> Case {

@@ -7,14 +7,14 @@ use crate::office::{Ask, Deed, Office, Side};
 
 /// The categories of an office by rank: the lower the number, the lower the
 /// rank.
-struct Ranks {
+pub struct Ranks {
     numbers: Vec<u32>,
     /// Where one step of a path leads from each rank.
-    next: Vec<Bits>,
+    pub next: Vec<Bits>,
 }
 
 impl Ranks {
-    fn of(office: &Office, side: Side) -> Ranks {
+    pub fn of(office: &Office, side: Side) -> Ranks {
         let numbers: Vec<u32> = office.categories.iter().copied().collect();
         let next = vec![Bits::default(); numbers.len()];
         let mut ranks = Ranks { numbers, next };
@@ -25,15 +25,22 @@ impl Ranks {
         ranks
     }
 
-    fn rank(&self, category: u32) -> usize {
+    pub fn rank(&self, category: u32) -> usize {
         let found = self.numbers.binary_search(&category);
         found.expect("an edge's mark is also its ends'")
     }
 
-    fn set(&self, categories: impl Iterator<Item = u32>) -> Bits {
+    pub fn set(&self, categories: impl Iterator<Item = u32>) -> Bits {
         let mut set = Bits::default();
         categories.for_each(|category| set.add(self.rank(category)));
         set
+    }
+
+    /// The same office without the steps out of one category.
+    pub fn without_steps_from(&self, category: u32) -> Ranks {
+        let mut next = self.next.clone();
+        next[self.rank(category)] = Bits::default();
+        Ranks { numbers: self.numbers.clone(), next }
     }
 
     fn starts(&self, office: &Office, ask: &Ask) -> Bits {
@@ -48,7 +55,7 @@ impl Ranks {
     }
 
     /// What each rank reaches over no step, one, or more.
-    fn closure(&self) -> Vec<Bits> {
+    pub fn closure(&self) -> Vec<Bits> {
         let mut reached = self.next.clone();
         for (rank, set) in reached.iter_mut().enumerate() {
             set.add(rank);

@@ -22,6 +22,11 @@ impl Desk {
         Desk { here: Office::of(words, office), elsewhere, side }
     }
 
+    /// What any office knows.
+    pub fn all(&self) -> &Office {
+        &self.elsewhere[self.elsewhere.len() - 1]
+    }
+
     pub fn ask(&self, random: &mut Random, manner: &str) -> Ask {
         match manner {
             "question: anything known" => self.anything_known(random),
@@ -54,7 +59,7 @@ impl Desk {
     fn something_unknown(&self, random: &mut Random) -> Ask {
         let mut ask = self.a_path(random);
         let which = random.between(1, 7);
-        let all = &self.elsewhere[self.elsewhere.len() - 1];
+        let all = self.all();
         if which & 1 != 0 {
             let absent = all.persons.difference(&self.here.persons).copied();
             ask.person = self.stranger(random, ask.person, absent);
@@ -72,7 +77,12 @@ impl Desk {
 
     /// Most likely unknown: one that only the other office has, a neighbour, a
     /// number of another type, or no number at all.
-    fn stranger(&self, random: &mut Random, number: u32, absent: impl Iterator<Item = u32>) -> u32 {
+    pub fn stranger(
+        &self,
+        random: &mut Random,
+        number: u32,
+        absent: impl Iterator<Item = u32>,
+    ) -> u32 {
         match random.below(9) {
             0 => 0,
             1 => u32::MAX,
@@ -89,7 +99,7 @@ impl Desk {
     }
 }
 
-fn one(random: &mut Random, numbers: impl Iterator<Item = u32>) -> u32 {
+pub fn one(random: &mut Random, numbers: impl Iterator<Item = u32>) -> u32 {
     let numbers: Vec<u32> = numbers.collect();
     match numbers.len() {
         0 => random.odd_word(),
@@ -97,8 +107,8 @@ fn one(random: &mut Random, numbers: impl Iterator<Item = u32>) -> u32 {
     }
 }
 
-/// About the length of the path, where one word decides.
-fn room_for(random: &mut Random, length: usize) -> usize {
+/// About the length of the result, where one word decides.
+pub fn room_for(random: &mut Random, length: usize) -> usize {
     match random.below(24) {
         0..=6 => length,
         7..=9 => length.saturating_sub(1),

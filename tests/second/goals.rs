@@ -6,7 +6,10 @@ use std::collections::BTreeMap;
 use crate::answer::{ask_of, ANSWER, JOINT, LISTED, WITNESS};
 use crate::closure::witness;
 use crate::office::{Office, Side};
+use crate::scope::Scope;
 use crate::sheet::{words_of, MOST_NODES};
+use crate::survey::{is_survey, REDUNDANT};
+use crate::survey_goals;
 use crate::trial::{Expected, Request};
 
 fn refusals(operation: u32) -> Vec<u32> {
@@ -63,7 +66,18 @@ pub fn needed() -> Vec<String> {
         goals.extend(WITNESS_GOALS.map(|goal| format!("question 3: {side:?} path {goal}")));
         goals.extend(LIST_GOALS.map(|goal| format!("question 4: {side:?} list {goal}")));
     }
+    goals.extend(survey_goals::needed());
     goals
+}
+
+/// The goals of the operations that a run is about. Each begins with its
+/// question.
+pub fn needed_in(scope: &Scope) -> Vec<String> {
+    let of_scope = |goal: &String| {
+        let mut own = (ANSWER..=REDUNDANT).filter(|&operation| scope.has(operation));
+        own.any(|operation| goal.starts_with(&format!("question {operation}: ")))
+    };
+    needed().into_iter().filter(of_scope).collect()
 }
 
 fn elsewhere(operation: u32, number: u32) -> String {
@@ -77,6 +91,9 @@ fn joint_goal(rule: u32, value: u32, office: u32) -> String {
 /// The goals one case meets, from what is expected of it.
 pub fn met(request: &Request, expected: &Expected) -> Vec<String> {
     let operation = request.operation;
+    if is_survey(operation) {
+        return survey_goals::met(request, expected);
+    }
     let [number, _, _, value, count, ..] = expected.reply;
     let mut goals = Vec::new();
     if number != 0 {
@@ -175,9 +192,9 @@ impl Goals {
         needed().into_iter().filter(|goal| !self.counts.contains_key(goal)).collect()
     }
 
-    pub fn print(&self) {
+    pub fn print(&self, scope: &Scope) {
         println!("goals of the questions:");
-        for goal in needed() {
+        for goal in needed_in(scope) {
             println!("  {goal}: {}", self.counts.get(&goal).unwrap_or(&0));
         }
     }

@@ -1,7 +1,7 @@
 //! Questions 1 to 4 put to sheets of every kind: what is asked, at which
 //! office, with how much room and with which list.
 
-use crate::answer::{JOINT, LISTED, WITNESS};
+use crate::answer::{writes, JOINT, LISTED, WITNESS};
 use crate::coverage::{Cell, CHECK_WORDS, ROW_PLACES};
 use crate::damage;
 use crate::desk::Desk;
@@ -35,7 +35,7 @@ impl Inquiry {
             request.second = bytes_of(&self.list);
             remainder(random, &mut request.second);
         }
-        if self.operation == WITNESS {
+        if writes(self.operation) {
             request.out_len = self.room;
         }
         request
@@ -79,7 +79,7 @@ fn whole_sheet(random: &mut Random) -> Sheet {
     }
 }
 
-fn damaged(random: &mut Random) -> Vec<u8> {
+pub fn damaged(random: &mut Random) -> Vec<u8> {
     if random.one_in(3) {
         return damage::several(random);
     }
@@ -149,7 +149,7 @@ fn fitting_desk(random: &mut Random, manner: &str, words: &[u32]) -> (u32, u32, 
 }
 
 /// Of a sheet that will be refused: what else is asked must not matter.
-fn inquire_in_vain(random: &mut Random, operation: u32, sheet: Vec<u8>) -> Inquiry {
+pub fn inquire_in_vain(random: &mut Random, operation: u32, sheet: Vec<u8>) -> Inquiry {
     let mut numbers = vec![random.below(4) as u32];
     numbers.extend((0..4).map(|_| random.odd_word()));
     let list = (0..random.below(12)).map(|_| random.odd_word()).collect();

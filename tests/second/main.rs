@@ -2,20 +2,27 @@
 //! documents alone: it judges sheets by itself, puts them to the trial
 //! program and compares every word that comes back.
 //!
-//! second [--seed N] [--cases N] [--questions N] [--only K] [--patience SECONDS]
-//!     -- COMMAND ARGS..
+//! second [--seed N] [--cases N] [--questions N] [--only OPERATIONS] [--case K]
+//!     [--patience SECONDS] -- COMMAND ARGS..
+//! second --benchmark [--only OPERATIONS] -- COMMAND ARGS..
 //! second --self-test
 
 mod answer;
+mod benchmark;
+mod benchmark_cases;
+mod benchmark_sheets;
 mod bits;
+mod book;
 mod case;
 mod cast;
 mod closure;
+mod content_goals;
 mod coverage;
 mod damage;
 mod desk;
 mod draft;
 mod dress;
+mod full_sheets;
 mod goals;
 mod inquiry;
 mod judge;
@@ -23,24 +30,44 @@ mod large;
 mod lists;
 mod longest;
 mod make;
+mod misread_redundant;
+mod misreadings;
 mod named;
 mod named_paths;
 mod named_questions;
+mod named_redundant;
 mod named_refusals;
 mod named_rows;
+mod named_survey_refusals;
+mod named_surveys;
 mod office;
 mod options;
 mod questions;
 mod random;
+mod reach;
+mod redundant;
+mod redundant_goals;
 mod report;
 mod scene;
+mod scope;
 mod scramble;
 mod selftest;
+mod selftest_benchmark;
+mod selftest_counted;
+mod selftest_misreadings;
 mod selftest_paths;
 mod selftest_questions;
+mod selftest_surveys;
 mod sheet;
 mod sister;
+mod stopwatch;
+mod survey;
+mod survey_goals;
+mod survey_inquiry;
+mod surveys;
+mod talk;
 mod tally;
+mod throng;
 mod trial;
 
 use std::process::exit;
@@ -55,6 +82,7 @@ use tally::Tally;
 fn main() {
     let tally = match Options::read(std::env::args().skip(1)) {
         Ok(options) if options.self_test => selftest::run(),
+        Ok(options) if options.benchmark => benchmark::run(&options),
         Ok(options) => run(&options),
         Err(why) => {
             eprintln!("{why}\n{}", options::USAGE);
@@ -67,17 +95,15 @@ fn main() {
 
 fn run(options: &Options) -> Tally {
     println!("seed {}", options.seed);
-    let plan = Arc::new(Plan::new(options.seed, options.cases, options.questions));
-    let numbers = match options.only {
-        Some(only) if only < plan.len() => only..only + 1,
-        Some(only) => {
-            println!("there is no case {only}: the last is {}", plan.len() - 1);
-            return Tally::default();
-        }
-        None => 0..plan.len(),
-    };
-    let mut report = Report::new(plan.clone(), numbers.clone(), options.only.is_some());
-    let cases = numbers.map(move |number| {
+    let plan = Arc::new(Plan::new(options.seed, options.cases, options.questions, options.surveys));
+    let numbers = chosen(options, &plan);
+    if numbers.is_empty() {
+        println!("no case is chosen: the last is {}; --only names operations", plan.len() - 1);
+        return Tally::default();
+    }
+    let scope = options.only.clone();
+    let mut report = Report::new(plan.clone(), numbers.clone(), scope, options.case.is_some());
+    let cases = numbers.into_iter().map(move |number| {
         let case = plan.case(number);
         (case.about, case.request, case.expected)
     });
@@ -86,4 +112,13 @@ fn run(options: &Options) -> Tally {
         report.answered(about, differences);
     });
     report.close(faults)
+}
+
+/// The numbers of the cases that are put to the trial.
+fn chosen(options: &Options, plan: &Plan) -> Vec<usize> {
+    let asked = |&number: &usize| options.case.map_or(true, |only| only == number);
+    let in_scope = |&number: &usize| {
+        options.only.is_all() || options.only.has(plan.case(number).about.operation)
+    };
+    (0..plan.len()).filter(asked).filter(in_scope).collect()
 }

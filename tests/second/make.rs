@@ -30,6 +30,15 @@ pub fn any(random: &mut Random) -> Sheet {
     }
 }
 
+/// Never large: for questions that look at every person, deed and folio.
+pub fn small(random: &mut Random) -> Sheet {
+    match random.below(12) {
+        0 => empty(random),
+        1..=3 => shaped(random, 2, 6),
+        _ => shaped(random, 5, 26),
+    }
+}
+
 /// Room for a first, a middle and a last row even where the first row that
 /// counts is row 1, and a category to be contained in itself.
 pub fn roomy(random: &mut Random) -> Sheet {

@@ -1,8 +1,8 @@
 //! Named cases about paths: chains, rings, which of several paths is the
 //! witness, and lists that are nearly one.
 
+use crate::book::Book;
 use crate::longest::MOST_CATEGORIES;
-use crate::named_questions::Book;
 use crate::sheet::*;
 
 pub fn add_all(book: &mut Book) {

@@ -2,7 +2,7 @@
 //! joint rules in full.
 
 use crate::answer::{ANSWER, JOINT, LISTED, WITNESS};
-use crate::named_questions::Book;
+use crate::book::Book;
 use crate::sheet::*;
 use crate::sister::*;
 

@@ -39,7 +39,7 @@ pub struct Ask {
     pub folio: u32,
 }
 
-#[derive(Default)]
+#[derive(Clone, Default)]
 pub struct Office {
     pub persons: BTreeSet<u32>,
     pub categories: BTreeSet<u32>,
@@ -132,5 +132,18 @@ impl Office {
     pub fn serving(&self, ask: &Ask) -> BTreeSet<Deed> {
         let serves = |pair: &&(Deed, u32)| pair.0 .0 == ask.deed && pair.1 == ask.folio;
         self.applies.iter().filter(serves).map(|pair| pair.0).collect()
+    }
+
+    /// Every variant of a deed taken for one. No question means this; it shows
+    /// where the variants matter.
+    pub fn fused(&self) -> Office {
+        let one = |deed: Deed| (deed.0, 0);
+        Office {
+            deeds: self.deeds.iter().map(|&deed| one(deed)).collect(),
+            grant: self.grant.iter().map(|&(category, deed)| (category, one(deed))).collect(),
+            ban: self.ban.iter().map(|&(category, deed)| (category, one(deed))).collect(),
+            applies: self.applies.iter().map(|&(deed, folio)| (one(deed), folio)).collect(),
+            ..self.clone()
+        }
     }
 }

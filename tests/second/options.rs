@@ -1,19 +1,29 @@
 //! The command line.
 
+use crate::scope::Scope;
+
 pub const USAGE: &str = "usage:
-  second [--seed N] [--cases N] [--questions N] [--only K] [--patience SECONDS]
-      -- COMMAND ARGS..
+  second [--seed N] [--cases N] [--questions N] [--only OPERATIONS] [--case K]
+      [--patience SECONDS] -- COMMAND ARGS..
+  second --benchmark [--only OPERATIONS] -- COMMAND ARGS..
   second --self-test";
 
 pub struct Options {
     pub seed: u64,
-    /// Random cases of the checks, and of the questions.
+    /// Random cases of the checks.
     pub cases: usize,
+    /// Random cases of questions 1 to 4 and of 5 to 10; --questions sets both.
     pub questions: usize,
-    pub only: Option<usize>,
+    pub surveys: usize,
+    /// The operations that are tried, such as 5 or 5-10 or 0,1-4,20.
+    pub only: Scope,
+    /// One case alone, by its number.
+    pub case: Option<usize>,
     /// Seconds without a reply after which the trial is given up.
     pub patience: u64,
     pub self_test: bool,
+    /// Times instead of comparisons.
+    pub benchmark: bool,
     pub command: Vec<String>,
 }
 
@@ -23,19 +33,27 @@ impl Options {
             seed: 20_240_611,
             cases: 24_000,
             questions: 24_000,
-            only: None,
+            surveys: 20_000,
+            only: Scope::default(),
+            case: None,
             patience: 300,
             self_test: false,
+            benchmark: false,
             command: Vec::new(),
         };
         while let Some(word) = words.next() {
             match word.as_str() {
                 "--seed" => options.seed = number(&word, words.next())?,
                 "--cases" => options.cases = number(&word, words.next())?,
-                "--questions" => options.questions = number(&word, words.next())?,
-                "--only" => options.only = Some(number(&word, words.next())?),
+                "--questions" => {
+                    options.questions = number(&word, words.next())?;
+                    options.surveys = options.questions;
+                }
+                "--only" => operations(&mut options.only, words.next())?,
+                "--case" => options.case = Some(number(&word, words.next())?),
                 "--patience" => options.patience = number(&word, words.next())?,
                 "--self-test" => options.self_test = true,
+                "--benchmark" => options.benchmark = true,
                 "--" => options.command = words.by_ref().collect(),
                 _ => return Err(format!("not understood: {word}")),
             }
@@ -50,4 +68,9 @@ impl Options {
 fn number<T: std::str::FromStr>(option: &str, word: Option<String>) -> Result<T, String> {
     let word = word.ok_or(format!("{option} needs a number"))?;
     word.parse().map_err(|_| format!("{option} needs a number, not {word}"))
+}
+
+fn operations(scope: &mut Scope, word: Option<String>) -> Result<(), String> {
+    let word = word.ok_or("--only needs operations")?;
+    scope.name(&word).ok_or(format!("--only needs operations, such as 5 or 5-10, not {word}"))
 }

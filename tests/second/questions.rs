@@ -2,9 +2,10 @@
 //! refusals of a sheet, then the largest sheets and lists, then any.
 
 use crate::answer::{self, ANSWER, LISTED};
+use crate::book::Asked;
 use crate::inquiry::{self, Inquiry};
 use crate::large;
-use crate::named_questions::{self, Asked};
+use crate::named_questions;
 use crate::random::Random;
 use crate::trial::{Expected, Request};
 
@@ -66,7 +67,7 @@ impl Questions {
     }
 }
 
-fn made(random: &mut Random, kind: &'static str, name: String, inquiry: Inquiry) -> Made {
+pub fn made(random: &mut Random, kind: &'static str, name: String, inquiry: Inquiry) -> Made {
     (kind, name, inquiry.request(random), None)
 }
 
@@ -78,7 +79,7 @@ fn tour(random: &mut Random, at: usize) -> Made {
     made(random, "question: tour", format!("aimed at {number}"), inquiry)
 }
 
-fn disagreement(asked: &Asked, expected: &Expected) -> Option<String> {
+pub fn disagreement(asked: &Asked, expected: &Expected) -> Option<String> {
     let (reply, written) = asked.says.reply();
     let agreed = expected.reply[..7] == reply && expected.output.starts_with(&written);
     let why = || format!("the document says {:?}, this program {:?}", asked.says, expected.reply);

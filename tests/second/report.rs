@@ -1,12 +1,12 @@
 //! What a run prints.
 
 use std::collections::BTreeMap;
-use std::ops::Range;
 use std::sync::Arc;
 
 use crate::case::{About, Case, Plan};
 use crate::coverage::{needed, Coverage, UNKNOWN};
 use crate::goals::{self, Goals};
+use crate::scope::Scope;
 use crate::sheet::{words_of, HEADER};
 use crate::tally::Tally;
 
@@ -14,7 +14,10 @@ const MOST_SHOWN: usize = 10;
 
 pub struct Report {
     plan: Arc<Plan>,
-    numbers: Range<usize>,
+    /// The cases of the run, in the order in which they are asked.
+    numbers: Vec<usize>,
+    /// What is outside of it need not be covered.
+    scope: Scope,
     answered: usize,
     /// One case alone is shown whole and cannot cover the table.
     alone: bool,
@@ -28,10 +31,11 @@ pub struct Report {
 }
 
 impl Report {
-    pub fn new(plan: Arc<Plan>, numbers: Range<usize>, alone: bool) -> Report {
+    pub fn new(plan: Arc<Plan>, numbers: Vec<usize>, scope: Scope, alone: bool) -> Report {
         Report {
             plan,
             numbers,
+            scope,
             answered: 0,
             alone,
             tally: Tally::default(),
@@ -99,9 +103,9 @@ impl Report {
     /// Replies come in the order of the requests, so the first case without
     /// one is known; it is likely the one that ended the trial.
     fn count_unanswered(&mut self) {
-        let first = self.numbers.start + self.answered;
-        let unanswered = self.numbers.end - first;
+        let unanswered = self.numbers.len() - self.answered;
         if unanswered > 0 {
+            let first = self.numbers[self.answered];
             println!("FAILED: {unanswered} cases were not answered, the first of them:");
             self.tally.failed += unanswered;
             let about = self.plan.case(first).about;
@@ -119,21 +123,21 @@ impl Report {
             println!("  {operation}: {count}");
         }
         println!("cases by expected outcome:");
-        for number in (0..=17).chain(20..=23).chain([25, 26, 27, 33, UNKNOWN]) {
+        for number in (0..=17).chain(20..=27).chain([31, 33, UNKNOWN]) {
             let name = if number == UNKNOWN { "unknown".to_string() } else { number.to_string() };
             println!("  {name}: {}", self.outcomes.get(&number).unwrap_or(&0));
         }
         self.coverage.print();
-        self.goals.print();
+        self.goals.print(&self.scope);
     }
 
     fn test_coverage(&mut self) {
         let misses = self.coverage.misses();
-        for cell in needed() {
+        for cell in needed().into_iter().filter(|cell| self.scope.has(cell.operation)) {
             self.tally.test(&format!("never reached: {cell}"), !misses.contains(&cell));
         }
         let misses = self.goals.misses();
-        for goal in goals::needed() {
+        for goal in goals::needed_in(&self.scope) {
             self.tally.test(&format!("never met: {goal}"), !misses.contains(&goal));
         }
     }
@@ -155,7 +159,7 @@ fn print_request(case: &Case, most_rows: usize) {
     }
     if rows.len().div_ceil(4) > most_rows {
         println!(
-            "    and more; --only {} with the same seed and counts shows all",
+            "    and more; --case {} with the same seed and counts shows all",
             case.about.number
         );
     }

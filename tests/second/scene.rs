@@ -9,26 +9,25 @@ use crate::sheet::*;
 
 /// How the rows of a scene are marked.
 #[derive(Clone, Copy)]
-enum Marks {
+pub enum Marks {
     Always(u32),
     Mixed,
     MostlyBoth,
 }
 
-struct Scene {
-    draft: Draft,
-    cast: Cast,
+pub struct Scene {
+    pub draft: Draft,
+    pub cast: Cast,
     marks: Marks,
 }
 
-type Shape = fn(&mut Random, &mut Scene);
+pub type Shape = fn(&mut Random, &mut Scene);
 
 const SHAPES: [Shape; 9] = [chain, ring, star, dense, diamond, variants, halves, both_sides, loose];
 
 pub fn small(random: &mut Random) -> Sheet {
     let office_count = random.pick(&[1, 2, 2]);
-    let marks = marks(random, office_count);
-    let mut scene = Scene { draft: Draft::default(), cast: cast(random), marks };
+    let mut scene = Scene::new(random, office_count);
     for _ in 0..random.pick(&[1, 1, 2, 3]) {
         random.pick(&SHAPES)(random, &mut scene);
     }
@@ -63,7 +62,12 @@ pub fn any_side(random: &mut Random) -> Side {
 }
 
 impl Scene {
-    fn mark(&self, random: &mut Random) -> u32 {
+    pub fn new(random: &mut Random, office_count: u32) -> Scene {
+        let marks = marks(random, office_count);
+        Scene { draft: Draft::default(), cast: cast(random), marks }
+    }
+
+    pub fn mark(&self, random: &mut Random) -> u32 {
         match self.marks {
             Marks::Always(offices) => offices,
             Marks::Mixed => random.between(1, 3) as u32,
@@ -71,48 +75,48 @@ impl Scene {
         }
     }
 
-    fn deed(&self, random: &mut Random) -> Deed {
+    pub fn deed(&self, random: &mut Random) -> Deed {
         (random.pick(&self.cast.deeds), random.pick(&self.cast.variants))
     }
 
-    fn category(&self, random: &mut Random) -> u32 {
+    pub fn category(&self, random: &mut Random) -> u32 {
         random.pick(&self.cast.categories)
     }
 
-    fn some_categories(&self, random: &mut Random, least: usize, most: usize) -> Vec<u32> {
+    pub fn some_categories(&self, random: &mut Random, least: usize, most: usize) -> Vec<u32> {
         let mut some = self.cast.categories.clone();
         random.shuffle(&mut some);
         some.truncate(random.between(least, most));
         some
     }
 
-    fn enter(&mut self, random: &mut Random, category: u32) {
+    pub fn enter(&mut self, random: &mut Random, category: u32) {
         let (person, offices) = (random.pick(&self.cast.persons), self.mark(random));
         self.draft.member(person, category, offices);
     }
 
-    fn step(&mut self, random: &mut Random, side: Side, from: u32, to: u32) {
+    pub fn step(&mut self, random: &mut Random, side: Side, from: u32, to: u32) {
         let offices = self.mark(random);
         self.draft.step(side, from, to, offices);
     }
 
-    fn right(&mut self, random: &mut Random, side: Side, category: u32, deed: Deed) {
+    pub fn right(&mut self, random: &mut Random, side: Side, category: u32, deed: Deed) {
         let offices = self.mark(random);
         self.draft.right(side, category, deed, offices);
     }
 
-    fn apply(&mut self, random: &mut Random, deed: Deed) {
+    pub fn apply(&mut self, random: &mut Random, deed: Deed) {
         let (folio, offices) = (random.pick(&self.cast.folios), self.mark(random));
         self.draft.applies(deed, folio, offices);
     }
 
-    fn leave(&mut self, random: &mut Random, side: Side, category: u32) {
+    pub fn leave(&mut self, random: &mut Random, side: Side, category: u32) {
         let deed = self.deed(random);
         self.right(random, side, category, deed);
         self.apply(random, deed);
     }
 
-    fn line(&mut self, random: &mut Random, side: Side, line: &[u32]) {
+    pub fn line(&mut self, random: &mut Random, side: Side, line: &[u32]) {
         for pair in line.windows(2) {
             self.step(random, side, pair[0], pair[1]);
         }
@@ -216,7 +220,7 @@ fn many_variants(random: &mut Random, scene: &mut Scene, side: Side, categories:
 }
 
 /// One deed number whose variants apply to different folios.
-fn variants(random: &mut Random, scene: &mut Scene) {
+pub fn variants(random: &mut Random, scene: &mut Scene) {
     let number = random.pick(&scene.cast.deeds);
     let some = scene.some_categories(random, 2, 4);
     let into = random.pick(&some);
@@ -233,7 +237,7 @@ fn variants(random: &mut Random, scene: &mut Scene) {
 
 /// A path whose first part one office has, and whose second part the other.
 /// In a scene of one office it is just a path.
-fn halves(random: &mut Random, scene: &mut Scene) {
+pub fn halves(random: &mut Random, scene: &mut Scene) {
     let usual = scene.marks;
     let (first, second) = match usual {
         Marks::Always(1) => (1, 1),
@@ -264,7 +268,7 @@ fn halves(random: &mut Random, scene: &mut Scene) {
 
 /// A grant path up and a ban path down for the same triple, by the same
 /// variant or by two.
-fn both_sides(random: &mut Random, scene: &mut Scene) {
+pub fn both_sides(random: &mut Random, scene: &mut Scene) {
     let line = scene.some_categories(random, 3, 7);
     let middle = random.below(line.len());
     scene.line(random, Side::Grant, &line);
@@ -279,7 +283,7 @@ fn both_sides(random: &mut Random, scene: &mut Scene) {
     }
 }
 
-fn loose(random: &mut Random, scene: &mut Scene) {
+pub fn loose(random: &mut Random, scene: &mut Scene) {
     for _ in 0..random.between(1, 8) {
         let (one, other) = (scene.category(random), scene.category(random));
         match random.below(5) {
@@ -299,7 +303,7 @@ fn loose(random: &mut Random, scene: &mut Scene) {
 }
 
 /// Known, but without an edge.
-fn lone_node(random: &mut Random, scene: &mut Scene) {
+pub fn lone_node(random: &mut Random, scene: &mut Scene) {
     let deed = scene.deed(random);
     let identity = match random.below(4) {
         0 => (PERSON, random.pick(&scene.cast.persons), 0),

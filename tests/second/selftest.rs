@@ -7,8 +7,12 @@ use crate::judge::{judge_bytes, judge_words, Verdict};
 use crate::make;
 use crate::named;
 use crate::random::Random;
+use crate::selftest_benchmark;
+use crate::selftest_counted;
+use crate::selftest_misreadings;
 use crate::selftest_paths;
 use crate::selftest_questions;
+use crate::selftest_surveys;
 use crate::sheet::{bytes_of, words_of, MOST_EDGES, MOST_NODES};
 use crate::sister;
 use crate::tally::Tally;
@@ -29,6 +33,10 @@ pub fn run() -> Tally {
     repeatable_cases(&mut tally);
     selftest_questions::run(&mut tally);
     selftest_paths::run(&mut tally);
+    selftest_surveys::run(&mut tally);
+    selftest_counted::run(&mut tally);
+    selftest_misreadings::run(&mut tally);
+    selftest_benchmark::run(&mut tally);
     tally
 }
 
@@ -86,7 +94,7 @@ fn byte_lengths(tally: &mut Tally) {
 
 fn named_cases(tally: &mut Tally) {
     let named = named::all();
-    let plan = Plan::new(0, 0, 0);
+    let plan = Plan::new(0, 0, 0, 0);
     for (number, case) in named.iter().enumerate() {
         let own_fault = plan.case(number).about.own_fault;
         tally.test(&format!("judge of the named case: {}", case.name), own_fault.is_none());
@@ -204,8 +212,8 @@ fn tallies(tally: &mut Tally) {
 }
 
 fn repeatable_cases(tally: &mut Tally) {
-    let (plan, again) = (Plan::new(5, 200, 0), Plan::new(5, 9000, 0));
-    let other = Plan::new(6, 200, 0);
+    let (plan, again) = (Plan::new(5, 200, 0, 0), Plan::new(5, 9000, 0, 0));
+    let other = Plan::new(6, 200, 0, 0);
     let bytes = |plan: &Plan, number| plan.case(number).request.bytes();
     let numbers = plan.checks() - 200..plan.checks();
     let same = numbers.clone().rev().all(|number| bytes(&plan, number) == bytes(&again, number));

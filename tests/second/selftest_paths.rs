@@ -14,7 +14,7 @@ use crate::sheet::*;
 use crate::tally::Tally;
 
 /// Every path of one office and side, row by row and without any cleverness.
-fn all_paths(sheet: &Sheet, office: u32, side: Side) -> BTreeSet<Vec<u32>> {
+pub fn all_paths(sheet: &Sheet, office: u32, side: Side) -> BTreeSet<Vec<u32>> {
     let starts =
         (0..sheet.nodes.len() as u32).filter(|&row| sheet.nodes[row as usize][0] == PERSON);
     let mut found = BTreeSet::new();
@@ -51,7 +51,7 @@ fn extend(
     }
 }
 
-fn ask_words(list: &[u32]) -> Ask {
+pub fn ask_words(list: &[u32]) -> Ask {
     let nodes: Vec<(u32, u32)> = list.chunks(2).map(|two| (two[0], two[1])).collect();
     path_ask(&nodes)
 }

@@ -41,7 +41,7 @@ const JOINT_WORDS: [u32; 70] = [
 /// and 9/4, 6 bans both, 7 bans 9/4, 8 bans 9/0; both apply to folio 3. Office 2
 /// has no ban, no category 6, and there 9/0 does not apply.
 #[rustfmt::skip]
-const HAND_WORDS: [u32; 82] = [
+pub const HAND_WORDS: [u32; 82] = [
     1,2,7,12,6,34,
     1,5,0,3, 2,6,0,1, 2,7,0,3, 2,8,0,3, 3,9,0,3, 3,9,4,3, 4,3,0,3,
     1,0,1,1, 1,0,2,3, 2,1,3,1, 2,2,3,3, 3,3,4,3, 3,3,5,3, 4,1,4,1, 4,1,5,1, 4,2,5,1,
@@ -201,7 +201,7 @@ fn outputs(tally: &mut Tally) {
 }
 
 fn named_cases(tally: &mut Tally) {
-    let plan = Plan::new(0, 0, 0);
+    let plan = Plan::new(0, 0, 0, 0);
     let named = named_questions::all();
     for (at, asked) in named.iter().enumerate() {
         let own_fault = plan.case(plan.checks() + at).about.own_fault;
@@ -235,7 +235,7 @@ fn goal_misses(tally: &mut Tally) {
     tally.test("no goal met misses them all", Goals::default().misses() == needed());
     let distinct: BTreeSet<String> = needed().into_iter().collect();
     tally.test("no two goals are the same", distinct.len() == needed().len());
-    tally.test("136 goals are needed", needed().len() == 136);
+    tally.test("354 goals are needed", needed().len() == 354);
     for left_out in needed() {
         let mut goals = Goals::default();
         let met = needed().into_iter().filter(|goal| *goal != left_out);
@@ -246,15 +246,16 @@ fn goal_misses(tally: &mut Tally) {
 }
 
 fn repeatable_questions(tally: &mut Tally) {
-    let (plan, again) = (Plan::new(5, 0, 200), Plan::new(5, 0, 9000));
-    let other = Plan::new(6, 0, 200);
+    let (plan, again) = (Plan::new(5, 0, 200, 0), Plan::new(5, 0, 9000, 0));
+    let other = Plan::new(6, 0, 200, 0);
     let bytes = |plan: &Plan, number| plan.case(number).request.bytes();
-    let numbers = plan.len() - 200..plan.len();
+    let end = plan.before_surveys();
+    let numbers = end - 200..end;
     let same = numbers.clone().rev().all(|number| bytes(&plan, number) == bytes(&again, number));
     tally.test("a question follows from seed and number", same);
     let differ = numbers.clone().filter(|&at| bytes(&plan, at) != bytes(&other, at)).count();
     tally.test("another seed makes other questions", differ == 200);
-    let asked = |number: usize| plan.case(plan.len() - 4 + number).about.operation;
+    let asked = |number: usize| plan.case(end - 4 + number).about.operation;
     let all: BTreeSet<u32> = (0..4).map(asked).collect();
     tally.test("four questions in turn", all == (ANSWER..ANSWER + 4).collect());
 }

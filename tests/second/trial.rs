@@ -140,7 +140,7 @@ pub fn question<T: Send + 'static>(
     faults
 }
 
-fn start(command: &[String]) -> std::io::Result<Child> {
+pub fn start(command: &[String]) -> std::io::Result<Child> {
     Command::new(&command[0])
         .args(&command[1..])
         .stdin(Stdio::piped())
@@ -217,7 +217,7 @@ fn listen<T>(
     }
 }
 
-fn end(child: &mut Child, patience: Duration) -> Option<String> {
+pub fn end(child: &mut Child, patience: Duration) -> Option<String> {
     let until = Instant::now() + patience;
     loop {
         match child.try_wait() {

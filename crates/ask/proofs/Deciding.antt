@@ -1,26 +1,23 @@
 -- What the numbers of a walk back from the folio decide: whether there is a path, and the witness.
 -- Assumes nothing.
-use Prim.Native.Nat.{ℕ, zero, suc, _^_, _<_, _≤_}
+use Prim.Native.Nat.{ℕ, zero, suc, _^_, _<_}
 use native.Mathlib.Omega.{arith}
 use mathlib.Core.Path.{_≡_, refl, ap, subst, _∙_}
 use mathlib.Core.Bool.{Bool, true, false, not, true≢false, false≢true}
 use mathlib.Core.List.{List}
-use mathlib.Core.Logic.{_⊎_, ⊎-elim}
+use mathlib.Core.Logic.{⊎-elim}
 use lib.Dec.{eqb}
-use lib.ListN.{length, getD, set, replicate, length-set}
-use lib.Seq.{getD-set-same, getD-set-other}
-use Rattle.sheet.specs.Limits.{maxNodes}
-use borrow.Author.Tests.{eqb-true, eqb-false, eq-eqb}
+use lib.ListN.{getD}
+use borrow.Author.Tests.{eqb-true, eq-eqb}
 use Rattle.tables.specs.Key.{identity}
 use Rattle.sheet.specs.declared.Header.{Header}
-use Rattle.sheet.specs.declared.Node.{Node}
 use Rattle.sheet.specs.Rows.{headerOf, nodeAt, edgeTable}
 use Rattle.sheet.specs.Accepted.{WellFormed, Accepted}
 use Rattle.sheet.specs.Named.{nodeRow, seenAt}
 use Rattle.sheet.proofs.Naming.{node-seen, ends-seen}
-use Rattle.paths.specs.Steps.{Layers, Starts}
+use Rattle.paths.specs.Steps.{Layers}
 use Rattle.paths.proofs.Tests.{and-left, and-right, both}
-use Rattle.paths.proofs.Distances.{zero-or, layers-map}
+use Rattle.paths.proofs.Distances.{zero-or}
 use Rattle.paths.proofs.Trails.{listed, numbered}
 use Rattle.meaning.specs.Paths.{Side, grant, ban, rightKind, person, deed, folio, right, HasPath}
 use Rattle.meaning.specs.Answers.{Says}
@@ -30,7 +27,7 @@ use Rattle.walk.specs.Arcs.{Steps}
 use Rattle.walk.proofs.Walking.{turned-layers}
 use Rattle.ask.specs.declared.Question.{Question}
 use Rattle.ask.specs.Asked.{stands, known, sideOf}
-use Rattle.ask.specs.Placed.{Placed, Target}
+use Rattle.ask.specs.Placed.{Placed}
 use Rattle.ask.proofs.Links.{walkFor}
 use Rattle.ask.proofs.Bridge.{trail-path, path-trail}
 use Rattle.ask.proofs.Known.{some-at}
@@ -112,42 +109,6 @@ placed-by s acc any office q rp rd rf lp ld lf ep ed ef =
     let c0 = c .0 in
     let c1 = c .1 in
     record { person-in = lp; person-is = cc; folio-in = lf; folio-is = cc; deed-some = λ z. acc .nodes .fit rd ld .number (b .1 ∙ z) }
-
--- ---- the numbers at the outset
-
-zeros-all : (n i : ℕ) → _≡_ {A = ℕ} (getD (replicate n 0) i 0) 0
-zeros-all zero i = refl
-zeros-all (suc n) zero = refl
-zeros-all (suc n) (suc i) = zeros-all n i
-
-pub target-set : (at : ℕ) → at < maxNodes → Target at (set (replicate maxNodes 0) at 1)
-target-set at h =
-    record {
-      long = length-set {A = ℕ} (replicate maxNodes 0) at 1;
-      one = getD-set-same (replicate maxNodes 0) at 1 0 h;
-      rest = λ i n. getD-set-other (replicate maxNodes 0) at i 1 0 n ∙ zeros-all maxNodes i;
-    }
-
-pub target-low : (at : ℕ) (d : List ℕ) → Target at d → (i : ℕ) → getD d i 0 ≤ 1
-target-low at d t i = go (eqb i at) refl
-  where
-    go : (b : Bool) → eqb i at ≡ b → getD d i 0 ≤ 1
-    go true e = let z = ap (λ (x : ℕ). getD d x 0) (eqb-true i at e) ∙ t .one in omega arith
-    go false e = let z = t .rest i (eqb-false i at e) in omega arith
-
--- the start is the one row
-pub target-layers : (R : ℕ → ℕ → Type 0) (at : ℕ) (d₀ d : List ℕ) → Target at d₀ → Layers R (Starts d₀) d → Layers R (λ x. x ≡ at) d
-target-layers R at d₀ d t y = layers-map (λ a b x. x) (λ a b x. x) from to y
-  where
-    from : (a : ℕ) → getD d₀ a 0 ≡ 1 → a ≡ at
-    from a e = go (eqb a at) refl
-      where
-        go : (b : Bool) → eqb a at ≡ b → a ≡ at
-        go true q = eqb-true a at q
-        go false q = let z = t .rest a (eqb-false a at q) in absurd (omega arith)
-
-    to : (a : ℕ) → a ≡ at → getD d₀ a 0 ≡ 1
-    to a e = ap (λ (x : ℕ). getD d₀ x 0) e ∙ t .one
 
 pub side-ban : (kind : ℕ) → (kind ≡ 0 → ⊥) → sideOf kind ≡ ban
 unfolding sideOf

@@ -27,14 +27,14 @@ abbrev pub walkFor : ℕ → Side → ℕ → Walk
 walkFor k side d = record { mark = 2 ^ k; right = rightKind side; deed = d }
 
 -- a kind is one of five
-data Kind (k : ℕ) : Type 0 where
+pub data Kind (k : ℕ) : Type 0 where
   one : k ≡ 1 → Kind k
   two : k ≡ 2 → Kind k
   three : k ≡ 3 → Kind k
   four : k ≡ 4 → Kind k
   five : k ≡ 5 → Kind k
 
-kind-of : (k : ℕ) → 1 ≤ k → k ≤ 5 → Kind k
+pub kind-of : (k : ℕ) → 1 ≤ k → k ≤ 5 → Kind k
 kind-of zero l h = absurd (omega (arith, l))
 kind-of (suc zero) l h = one refl
 kind-of (suc (suc zero)) l h = two refl
@@ -44,7 +44,7 @@ kind-of (suc (suc (suc (suc (suc zero))))) l h = five refl
 kind-of (suc (suc (suc (suc (suc (suc k)))))) l h = absurd (omega (arith, h))
 
 -- the types that a kind's ends have
-ends-are : (kind a b x y : ℕ) → endsFit kind a b ≡ true → endsFit kind a b ≡ ((eqb a x && eqb b y) || false) → (a ≡ x) × (b ≡ y)
+pub ends-are : (kind a b x y : ℕ) → endsFit kind a b ≡ true → endsFit kind a b ≡ ((eqb a x && eqb b y) || false) → (a ≡ x) × (b ≡ y)
 ends-are kind a b x y e q =
     let r : ((eqb a x && eqb b y) || false) ≡ true = sym q ∙ e in
     let p : (eqb a x && eqb b y) ≡ true = left (eqb a x && eqb b y) r in

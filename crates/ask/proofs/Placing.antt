@@ -30,7 +30,7 @@ unfolding sideOf
 two-sides g p d f r a b x y e = record { grants = a; bans = b; granted = x; banned = y; number = e }
 
 -- a row was found exactly if there is one
-found-known : (f : ℕ → Bool) (n r : ℕ) → FirstStanding f n r → ltb r n ≡ someRow f n
+pub found-known : (f : ℕ → Bool) (n r : ℕ) → FirstStanding f n r → ltb r n ≡ someRow f n
 found-known f n r x = go (decLt r n)
   where
     go : Dec (r < n) → ltb r n ≡ someRow f n

@@ -1,7 +1,9 @@
 -- Any two answers that a statement allows are equal, and so is what they leave in the output.
 -- Assumes nothing.
-use Prim.Native.Nat.{ℕ}
+use Prim.Native.Nat.{ℕ, _<_, _≤_}
 use native.Mathlib.Omega.{arith}
+use native.Mathlib.Decide.{decLt}
+use mathlib.Core.Bool.{Bool, true≢false}
 use mathlib.Core.Path.{_≡_, refl, sym, ap, ap₂, _∙_}
 use mathlib.Core.List.{List, _++_}
 use lib.ListN.{length, drop}
@@ -12,6 +14,7 @@ use Rattle.meaning.specs.Answers.{AnswerIs, Joint, JointIs}
 use Rattle.meaning.specs.Questions.{WitnessIs}
 use Rattle.meaning.proofs.Unique.{answer-one, joint-one, witness-one}
 use Rattle.ask.specs.declared.Answer.{Answer}
+use Rattle.ask.specs.Asked.{FirstStanding}
 use Rattle.ask.specs.Replies.{tells, Replies, refused, answered, Shows, missing, short, written}
 
 module _ (r : Refusal) (P : ℕ → ℕ → Type 0) (one : (v c v′ c′ : ℕ) → P v c → P v′ c′ → tells v c ≡ tells v′ c′) where
@@ -57,3 +60,12 @@ witness-single g side p d f r out = shows-one r (WitnessIs g side p d f) (witnes
 -- question 4
 pub listed-single : (w v c v′ c′ : ℕ) → (v ≡ w) × (c ≡ 0) → (v′ ≡ w) × (c′ ≡ 0) → tells v c ≡ tells v′ c′
 listed-single w v c v′ c′ a b = ap₂ tells (a .0 ∙ sym (b .0)) (a .1 ∙ sym (b .1))
+
+-- the first row that passes
+pub first-standing-one : (f : ℕ → Bool) (n r r′ : ℕ) → FirstStanding f n r → FirstStanding f n r′ → r ≡ r′
+first-standing-one f n r r′ x y = go (decLt r r′) (decLt r′ r)
+  where
+    go : Dec (r < r′) → Dec (r′ < r) → r ≡ r′
+    go (yes l) m = let z = y .most in absurd (true≢false (sym (x .found (omega arith)) ∙ y .before r l))
+    go (no l) (yes m) = let z = x .most in absurd (true≢false (sym (y .found (omega arith)) ∙ x .before r′ m))
+    go (no l) (no m) = omega arith

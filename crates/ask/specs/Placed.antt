@@ -4,9 +4,7 @@ use Prim.Native.Nat.{ℕ, suc, _^_, _<_}
 use mathlib.Core.Path.{_≡_}
 use mathlib.Core.Bool.{Bool, not}
 use mathlib.Core.List.{List}
-use lib.ListN.{length, getD}
 use Rattle.sheet.specs.declared.Header.{Header}
-use Rattle.sheet.specs.Limits.{maxNodes}
 use Rattle.sheet.specs.Refusals.{_below_, _when_otherwise_}
 use Rattle.sheet.specs.Rows.{headerOf, nodeKeyAt}
 use Rattle.sheet.specs.Accepted.{WellFormed}
@@ -29,12 +27,6 @@ pub record AtOffice (s t : List ℕ) (h : Header) (k mark : ℕ) : Type 0 where
   pub formed : WellFormed s t h
   pub mark-is : mark ≡ 2 ^ k
   pub mark-some : 0 < mark
-
--- numbers of which the one at a row is 1 and every other is 0
-pub record Target (at : ℕ) (d : List ℕ) : Type 0 where
-  pub long : length d ≡ maxNodes
-  pub one : getD d at 0 ≡ 1
-  pub rest : (i : ℕ) → (i ≡ at → ⊥) → getD d i 0 ≡ 0
 
 -- where a search found the question's person, deed and folio
 pub record FoundAll (s : List ℕ) (any : Bool) (office n : ℕ) (q : Question) (p : Places) : Type 0 where

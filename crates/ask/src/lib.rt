@@ -21,19 +21,21 @@ ghost use Rattle.meaning.specs.Paths.{rightKind, HasPath, member, step, carries
 ghost use Rattle.meaning.specs.Answers.{Says, answered, AnswerIs, lowest, undetermined, jointly, JointIs};
 ghost use Rattle.meaning.specs.Questions.{WitnessIs};
 ghost use Rattle.ask.specs.Asked.{FirstStanding, stands, badOffice, askFault, jointFault, plain, afterSheet, sideOf};
-ghost use Rattle.ask.specs.Placed.{Placed, AtOffice, Target, FoundAll, unfound, StandsSo};
+ghost use Rattle.ask.specs.Placed.{Placed, AtOffice, FoundAll, unfound, StandsSo};
 ghost use Rattle.ask.specs.Replies.{refusedBy, tells, Replies, Shows};
 ghost use Rattle.ask.specs.Listed.{numberOf, rowOf, everySecond, plainFrom, framed, wayFrom, goesOn};
 ghost use Rattle.ask.specs.Passing.{passing, telling};
 ghost use Rattle.ask.specs.Written.{nodeWords, RowsIn, Measured, PathRows};
 
-// What is asked. Each question looks at the numbers that it names: office or rule, and kind, 0 for a grant and any other for a ban.
+// What is asked. Each question looks at the numbers that it names: office or rule, kind, 0 for a grant and any other for a ban, and `other` where it names two deeds.
 pub struct Question {
     pub office: u32,
     pub rule: u32,
     pub kind: u32,
     pub person: u32,
+    pub category: u32,
     pub deed: u32,
+    pub other: u32,
     pub folio: u32,
 }
 
@@ -78,7 +80,7 @@ fn is_standing(r: Node, any: bool, mark: u32, class: u32, number: u32) -> bool
 }
 
 // The first node row of the type and the number that office k + 1 has, or any office where `any` says so; the node count where there is none.
-fn seek(sheet: &[u32], h: Header, any: bool, k: u32, mark: u32, class: u32, number: u32) -> u32
+pub fn seek(sheet: &[u32], h: Header, any: bool, k: u32, mark: u32, class: u32, number: u32) -> u32
     requires { ⌜ NodesFormed (now sheet) h × (mark ≡ 2 ^ k) × (0 < mark) ⌝ }
     ensures { λ r. ⌜ FirstStanding (stands (now (sheet .entry)) any (suc k) class number) (h .nodes) r ⌝ }
 {
@@ -109,23 +111,12 @@ fn places_of(sheet: &[u32], h: Header, any: bool, k: u32, mark: u32, q: Question
     }
 }
 
-// The numbers at the outset: 1 at a row, 0 at every other.
-fn target(at: u32) -> [u32; ROWS]
-    requires { ⌜ at < maxNodes ⌝ }
-    ensures { λ r. ⌜ Target at r ⌝ }
-{
-    let mut d = [0u32; ROWS];
-    let i = at as usize;
-    d[i] = 1;
-    d
-}
-
 // How many steps lead from each node row to a row, and one; 0 where none do.
 fn measured(sheet: &[u32], edges: &[u32], h: Header, w: Walk, to: u32) -> [u32; ROWS]
     requires { ⌜ WellFormed (now sheet) (now edges) h × (0 < w .mark) × (to < h .nodes) ⌝ }
     ensures { λ r. ⌜ (length r ≡ maxNodes) × Layers (Steps (now (sheet .entry)) (now (edges .entry)) w true (h .edges)) (λ x. x ≡ to) r ⌝ }
 {
-    let mut d = target(to);
+    let mut d = walk::target(to);
     walk::layers(sheet, edges, h, w, true, &mut d);
     d
 }
@@ -233,7 +224,7 @@ fn office_answer(sheet: &[u32], edges: &[u32], h: Header, k: u32, mark: u32, q: 
 }
 
 // The mark of office k + 1.
-fn mark_of(k: u32) -> u32
+pub fn mark_of(k: u32) -> u32
     requires { ⌜ k < maxOffices ⌝ }
     ensures { λ r. ⌜ (r ≡ 2 ^ k) × (0 < r) ⌝ }
 {
@@ -241,7 +232,7 @@ fn mark_of(k: u32) -> u32
 }
 
 // 20 where there is no such office.
-fn bad_office(h: Header, office: u32) -> u32
+pub fn bad_office(h: Header, office: u32) -> u32
     ensures { λ r. ⌜ r ≡ badOffice h office ⌝ }
 {
     if (office < 1) | (h.offices < office) {
@@ -251,7 +242,7 @@ fn bad_office(h: Header, office: u32) -> u32
 }
 
 // A refusal as an answer.
-fn refused(r: Refusal) -> Answer
+pub fn refused(r: Refusal) -> Answer
     ensures { λ a. ⌜ a ≡ refusedBy r ⌝ }
 {
     Answer {
@@ -264,7 +255,7 @@ fn refused(r: Refusal) -> Answer
 }
 
 // A refusal at place 0, 0 as an answer.
-fn refused_by(number: u32) -> Answer
+pub fn refused_by(number: u32) -> Answer
     ensures { λ a. ⌜ a ≡ refusedBy (record { number = number; sheet = 0; row = 0 }) ⌝ }
 {
     Answer {
@@ -277,7 +268,7 @@ fn refused_by(number: u32) -> Answer
 }
 
 // What a question tells, as an answer.
-fn told(value: u32, count: u32) -> Answer
+pub fn told(value: u32, count: u32) -> Answer
     ensures { λ a. ⌜ a ≡ tells value count ⌝ }
 {
     Answer {

@@ -14,11 +14,11 @@ use Rattle.meaning.specs.Source.{Within, Inherits, Authorised, Undetermi
 use Rattle.meaning.proofs.Spelling.{Onward, onward, has-path}
 
 -- the steps of a side's paths are its inheritance: a ban's run against containment
-inherited : (g : View) (side : Side) {c c′ : ℕ} → Reach (step g side) c c′ → Inherits g side c c′
+pub inherited : (g : View) (side : Side) {c c′ : ℕ} → Reach (step g side) c c′ → Inherits g side c c′
 inherited g grant r = r
 inherited g ban r = turned (step g ban) r
 
-inheriting : (g : View) (side : Side) {c c′ : ℕ} → Inherits g side c c′ → Reach (step g side) c c′
+pub inheriting : (g : View) (side : Side) {c c′ : ℕ} → Inherits g side c c′ → Reach (step g side) c c′
 inheriting g grant r = r
 inheriting g ban r = turned (contained g) r
 

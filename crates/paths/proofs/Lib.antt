@@ -4,3 +4,4 @@ pub mod Distances
 pub mod Rounds
 pub mod Trails
 pub mod Bounds
+pub mod Queues

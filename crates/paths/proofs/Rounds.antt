@@ -6,12 +6,12 @@ use mathlib.Core.List.{List, [], _∷_}
 use mathlib.Core.Logic.{_⊎_, inl, inr, ⊎-elim}
 use Prim.Native.Nat.{ℕ, zero, suc, _+_, _<_, _≤_}
 use native.Mathlib.Nat.{eq-or-lt-of-le}
-use native.Mathlib.Decide.{ℕ-discrete}
+use native.Mathlib.Decide.{ℕ-discrete, decLt}
 use native.Mathlib.Numerals.{add-one}
 use native.Mathlib.Omega.{arith}
 use lib.ListN.{length, getD, set, length-set}
 use lib.Seq.{getD-set-same, getD-set-other}
-use Rattle.paths.specs.Steps.{Via, Spread, zeros, Round, LeastNext}
+use Rattle.paths.specs.Steps.{Via, Spread, zeros, Queued, Round, LeastNext}
 use Rattle.paths.proofs.Distances.{zero-or}
 
 pub positive : (n : ℕ) → (n ≡ 0 → ⊥) → 0 < n
@@ -54,96 +54,156 @@ module _ (on : ℕ → Bool) (near far : ℕ → ℕ) (k : ℕ) where
       below : t .row < k → Via on near far k a i ⊎ ((on k ≡ true) × (near k ≡ a) × (far k ≡ i))
       below q = inl (record { row = t .row; inside = q; is = t .is; leaves = t .leaves; enters = t .enters })
 
-module _ (on : ℕ → Bool) (near far : ℕ → ℕ) (v k : ℕ) (d₀ d : List ℕ) (pos : 0 < v) (sp : Spread (Via on near far k) v d₀ d) where
-  now-level : (a : ℕ) → getD d₀ a 0 ≡ v → getD d a 0 ≡ v
-  now-level a q = sp .kept a (omega arith) ∙ q
+-- ---- a round, part by part
 
-  was-level : (a : ℕ) → getD d a 0 ≡ v → getD d₀ a 0 ≡ v
-  was-level a q = ⊎-elim fresh old (zero-or (getD d₀ a 0))
-    where
-      fresh : getD d₀ a 0 ≡ 0 → getD d₀ a 0 ≡ v
-      fresh z = ⊎-elim (λ y. absurd (omega arith)) (λ y. let y0 = y .0 in absurd (omega arith)) (sp .new a z)
+-- where the steps from the nodes numbered v lead to numbered nodes, nothing is to be done
+pub spread-stay : (R : ℕ → ℕ → Type 0) (v : ℕ) (d : List ℕ) → ((a i : ℕ) → R a i → getD d a 0 ≡ v → 0 < getD d i 0) → Spread R v d d
+spread-stay R v d done = record { kept = λ i _. refl; new = λ i z. inl z; all = done }
 
-      old : (x : ℕ) × (getD d₀ a 0 ≡ suc x) → getD d₀ a 0 ≡ v
-      old x = let x1 = x .1 in sym (sp .kept a (omega arith)) ∙ q
-
-  unmoved : (on k ≡ true → getD d (near k) 0 ≡ v → 0 < getD d (far k) 0) → Spread (Via on near far (k + 1)) v d₀ d
-  unmoved done =
-      record { kept = sp .kept; new = λ i z. ⊎-elim inl (λ w. inr (w .0, (w .1 .0, w .1 .1, wider on near far k (w .1 .2)))) (sp .new i z); all = all }
-    where
-      all : (a i : ℕ) → Via on near far (k + 1) a i → getD d₀ a 0 ≡ v → 0 < getD d i 0
-      all a i t l =
-          ⊎-elim (λ t'. sp .all a i t' l)
-          (λ w. rw (w .2) at (done (w .0) (rw (w .1) (now-level a l)))) (parts on near far k t)
-
-  module _ (q : on k ≡ true) (l : getD d (near k) 0 ≡ v) (z : getD d (far k) 0 ≡ 0) (fits : far k < length d) where
-    other : (i : ℕ) → 0 < getD d i 0 → getD (set d (far k) (v + 1)) i 0 ≡ getD d i 0
-    other i h = getD-set-other d (far k) i (v + 1) 0 (λ w. let y = rw w at h in omega arith)
-
-    here : getD (set d (far k) (v + 1)) (far k) 0 ≡ v + 1
-    here = getD-set-same d (far k) (v + 1) 0 fits
-
-    moved : Spread (Via on near far (k + 1)) v d₀ (set d (far k) (v + 1))
-    moved = record { kept = kept; new = new; all = all }
-      where
-        kept : (i : ℕ) → 0 < getD d₀ i 0 → getD (set d (far k) (v + 1)) i 0 ≡ getD d₀ i 0
-        kept i h = let y = sp .kept i h in other i (omega arith) ∙ y
-
-        new : (i : ℕ) → getD d₀ i 0 ≡ 0 → (getD (set d (far k) (v + 1)) i 0 ≡ 0) ⊎ ((getD (set d (far k) (v + 1)) i 0 ≡ suc v) × ((a : ℕ) × (getD d₀ a 0 ≡ v) × Via on near far (k + 1) a i))
-        new i z₀ = ⊎-elim at off (same-or i (far k))
-          where
-            at : i ≡ far k → (getD (set d (far k) (v + 1)) i 0 ≡ 0) ⊎ ((getD (set d (far k) (v + 1)) i 0 ≡ suc v) × ((a : ℕ) × (getD d₀ a 0 ≡ v) × Via on near far (k + 1) a i))
-            at w =
-                inr (
-                  rw w (here ∙ add-one v),
-                  (
-                    near k,
-                    was-level (near k) l,
-                    record { row = k; inside = omega arith; is = q; leaves = refl; enters = sym w },
-                  ),
-                )
-
-            off : (i ≡ far k → ⊥) → (getD (set d (far k) (v + 1)) i 0 ≡ 0) ⊎ ((getD (set d (far k) (v + 1)) i 0 ≡ suc v) × ((a : ℕ) × (getD d₀ a 0 ≡ v) × Via on near far (k + 1) a i))
-            off w =
-                let o = getD-set-other d (far k) i (v + 1) 0 w in
-                ⊎-elim (λ y. inl (o ∙ y)) (λ y. inr (o ∙ y .0, (y .1 .0, y .1 .1, wider on near far k (y .1 .2)))) (sp .new i z₀)
-
-        all : (a i : ℕ) → Via on near far (k + 1) a i → getD d₀ a 0 ≡ v → 0 < getD (set d (far k) (v + 1)) i 0
-        all a i t lv =
-            ⊎-elim (λ t'. let y = sp .all a i t' lv in rw (other i y) y)
-            (λ w. rw (← (w .2)) (rw here (omega arith))) (parts on near far k t)
-
-module _ (on : ℕ → Bool) (near far : ℕ → ℕ) (v k : ℕ) (d₀ d : List ℕ) (fresh : ℕ) (pos : 0 < v) (ro : Round (Via on near far k) v d₀ d fresh) where
-  pub round-stay : (on k ≡ true → getD d (near k) 0 ≡ v → 0 < getD d (far k) 0) → Round (Via on near far (k + 1)) v d₀ d (fresh + 0)
-  round-stay done =
-      record {
-        spread = unmoved on near far v k d₀ d pos (ro .spread) done;
-        count = let y = ro .count in omega arith;
-        none = λ z. ro .none (omega arith);
-        long = ro .long;
-      }
-
-  pub round-put : (far k < length d) → on k ≡ true → getD d (near k) 0 ≡ v → getD d (far k) 0 ≡ 0 → Round (Via on near far (k + 1)) v d₀ (set d (far k) (v + 1)) (fresh + 1)
-  round-put fits q l z =
-      record {
-        spread = moved on near far v k d₀ d pos (ro .spread) q l z fits;
-        count = let y = ro .count in let y' = rw (← add-one v) at (zeros-set d (far k) v fits z) in omega arith;
-        none = λ w. absurd (omega arith);
-        long = length-set d (far k) (v + 1) ∙ ro .long;
-      }
-
-pub round-none : (on : ℕ → Bool) (near far : ℕ → ℕ) (v : ℕ) (d : List ℕ) → Round (Via on near far 0) v d d 0
-round-none on near far v d =
+pub round-stay : (R : ℕ → ℕ → Type 0) (v : ℕ) (d q : List ℕ) (n : ℕ) → ((a i : ℕ) → R a i → getD d a 0 ≡ v → 0 < getD d i 0) → Round R v d q n d q n
+round-stay R v d q n done =
     record {
-      spread = record { kept = λ i _. refl; new = λ i z. inl z; all = λ a i t l. let w = t .inside in absurd (omega arith) };
-      count = omega arith;
-      none = λ _. refl;
+      spread = spread-stay R v d done;
       long = refl;
+      queue = refl;
+      count = refl;
+      grows = omega arith;
+      front = λ k _. refl;
+      came = λ i z h. absurd (omega arith);
+      led = λ k l h. absurd (omega arith);
     }
 
-pub round-all : {on : ℕ → Bool} {near far : ℕ → ℕ} {v k n : ℕ} {d d′ : List ℕ} {r : ℕ} → k ≤ n → n ≤ k → Round (Via on near far k) v d d′ r → Round (Via on near far n) v d d′ r
-round-all {on} {near} {far} {v} {k} {n} {d} {d′} {r} h h' ro =
-    let q : k ≡ n = omega arith in subst (λ (x : ℕ). Round (Via on near far x) v d d′ r) q ro
+-- the end y of a step gets its number and its place in the queue
+module _ (R : ℕ → ℕ → Type 0) (v : ℕ) (d q : List ℕ) (n x y : ℕ) (fits : y < length d) (st : R x y) (l : getD d x 0 ≡ v) (z : getD d y 0 ≡ 0)
+    (only : (a i : ℕ) → R a i → i ≡ y) where
+  here : getD (set d y (v + 1)) y 0 ≡ suc v
+  here = getD-set-same d y (v + 1) 0 fits ∙ add-one v
+
+  other : (i : ℕ) → (i ≡ y → ⊥) → getD (set d y (v + 1)) i 0 ≡ getD d i 0
+  other i w = getD-set-other d y i (v + 1) 0 w
+
+  spread-put : Spread R v d (set d y (v + 1))
+  spread-put = record { kept = kept; new = new; all = all }
+    where
+      kept : (i : ℕ) → 0 < getD d i 0 → getD (set d y (v + 1)) i 0 ≡ getD d i 0
+      kept i h = other i (λ w. let e = rw w at h in omega arith)
+
+      new : (i : ℕ) → getD d i 0 ≡ 0 → (getD (set d y (v + 1)) i 0 ≡ 0) ⊎ ((getD (set d y (v + 1)) i 0 ≡ suc v) × ((a : ℕ) × (getD d a 0 ≡ v) × R a i))
+      new i z₀ = ⊎-elim (λ w. inr (rw w here, (x, l, rw w st))) (λ w. inl (other i w ∙ z₀)) (same-or i y)
+
+      all : (a i : ℕ) → R a i → getD d a 0 ≡ v → 0 < getD (set d y (v + 1)) i 0
+      all a i t lv = rw (only a i t) (omega (arith, here))
+
+  room-put : zeros (set d y (v + 1)) + 1 ≡ zeros d
+  room-put = rw (add-one v) (zeros-set d y v fits z)
+
+  pub round-put : n < length q → Round R v d q n (set d y (v + 1)) (set q n y) (n + 1)
+  round-put room =
+      record {
+        spread = spread-put;
+        long = length-set d y (v + 1);
+        queue = length-set q n y;
+        count = omega (arith, room-put);
+        grows = omega arith;
+        front = λ k h. getD-set-other q n k y 0 (λ w. omega arith);
+        came = came;
+        led = led;
+      }
+    where
+      came : (i : ℕ) → getD d i 0 ≡ 0 → 0 < getD (set d y (v + 1)) i 0 → Queued (set q n y) n (n + 1) i
+      came i z₀ h =
+          ⊎-elim (λ w. record { place = n; from = omega arith; below = omega arith; is = getD-set-same q n y 0 room ∙ sym w })
+          (λ w. let e = other i w in absurd (omega arith)) (same-or i y)
+
+      led : (k : ℕ) → n ≤ k → k < n + 1 → (a : ℕ) × R a (getD (set q n y) k 0)
+      led k g h = let e : k ≡ n = omega arith in (x, rw (e, getD-set-same q n y 0 room) st)
+
+-- one part after another is a part by the steps of both
+module _ (R R′ Q : ℕ → ℕ → Type 0) (v : ℕ) (pos : 0 < v) (d₀ d₁ d₂ : List ℕ) (f : (a b : ℕ) → R a b → Q a b) (f′ : (a b : ℕ) → R′ a b → Q a b)
+    (part : (a b : ℕ) → Q a b → getD d₀ a 0 ≡ v → R a b ⊎ R′ a b) where
+  module _ (sp : Spread R v d₀ d₁) where
+    was-level : (a : ℕ) → getD d₁ a 0 ≡ v → getD d₀ a 0 ≡ v
+    was-level a q = ⊎-elim fresh old (zero-or (getD d₀ a 0))
+      where
+        fresh : getD d₀ a 0 ≡ 0 → getD d₀ a 0 ≡ v
+        fresh z = ⊎-elim (λ y. absurd (omega arith)) (λ y. let y0 = y .0 in absurd (omega arith)) (sp .new a z)
+
+        old : (x : ℕ) × (getD d₀ a 0 ≡ suc x) → getD d₀ a 0 ≡ v
+        old x = let x1 = x .1 in sym (sp .kept a (omega arith)) ∙ q
+
+    spread-then : Spread R′ v d₁ d₂ → Spread Q v d₀ d₂
+    spread-then sp′ = record { kept = kept; new = new; all = all }
+      where
+        kept : (i : ℕ) → 0 < getD d₀ i 0 → getD d₂ i 0 ≡ getD d₀ i 0
+        kept i h = let y = sp .kept i h in sp′ .kept i (omega arith) ∙ y
+
+        still : (i : ℕ) → 0 < getD d₁ i 0 → 0 < getD d₂ i 0
+        still i h = let y = sp′ .kept i h in omega arith
+
+        new : (i : ℕ) → getD d₀ i 0 ≡ 0 → (getD d₂ i 0 ≡ 0) ⊎ ((getD d₂ i 0 ≡ suc v) × ((a : ℕ) × (getD d₀ a 0 ≡ v) × Q a i))
+        new i z =
+            ⊎-elim
+            (λ z₁. ⊎-elim inl (λ w. inr (w .0, (w .1 .0, was-level (w .1 .0) (w .1 .1), f′ (w .1 .0) i (w .1 .2)))) (sp′ .new i z₁))
+            (λ w. let w0 = w .0 in inr (sp′ .kept i (omega arith) ∙ w0, (w .1 .0, w .1 .1, f (w .1 .0) i (w .1 .2))))
+            (sp .new i z)
+
+        all : (a i : ℕ) → Q a i → getD d₀ a 0 ≡ v → 0 < getD d₂ i 0
+        all a i t l =
+            ⊎-elim (λ t′. still i (sp .all a i t′ l)) (λ t′. sp′ .all a i t′ (sp .kept a (omega arith) ∙ l)) (part a i t l)
+
+  pub round-then : {q₀ q₁ q₂ : List ℕ} {n₀ n₁ n₂ : ℕ} → Round R v d₀ q₀ n₀ d₁ q₁ n₁ → Round R′ v d₁ q₁ n₁ d₂ q₂ n₂ → Round Q v d₀ q₀ n₀ d₂ q₂ n₂
+  round-then {q₀} {q₁} {q₂} {n₀} {n₁} {n₂} ro ro′ =
+      record {
+        spread = spread-then (ro .spread) (ro′ .spread);
+        long = ro′ .long ∙ ro .long;
+        queue = ro′ .queue ∙ ro .queue;
+        count = ro′ .count ∙ ro .count;
+        grows = omega (arith, ro .grows, ro′ .grows);
+        front = λ k h. let g = ro .grows in ro′ .front k (omega arith) ∙ ro .front k h;
+        came = came;
+        led = led;
+      }
+    where
+      came : (i : ℕ) → getD d₀ i 0 ≡ 0 → 0 < getD d₂ i 0 → Queued q₂ n₀ n₂ i
+      came i z h = ⊎-elim late early (zero-or (getD d₁ i 0))
+        where
+          late : getD d₁ i 0 ≡ 0 → Queued q₂ n₀ n₂ i
+          late z₁ =
+              let w = ro′ .came i z₁ h in
+              record { place = w .place; from = omega (arith, w .from, ro .grows); below = w .below; is = w .is }
+
+          early : (m : ℕ) × (getD d₁ i 0 ≡ suc m) → Queued q₂ n₀ n₂ i
+          early m =
+              let w = ro .came i z (omega (arith, m .1)) in
+              record { place = w .place; from = w .from; below = omega (arith, w .below, ro′ .grows); is = ro′ .front (w .place) (w .below) ∙ w .is }
+
+      led : (k : ℕ) → n₀ ≤ k → k < n₂ → (a : ℕ) × Q a (getD q₂ k 0)
+      led k g h = go (decLt k n₁)
+        where
+          go : Dec (k < n₁) → (a : ℕ) × Q a (getD q₂ k 0)
+          go (yes l) = let w = ro .led k g l in (w .0, rw (ro′ .front k l) (f (w .0) (getD q₁ k 0) (w .1)))
+          go (no l) = let w = ro′ .led k (omega arith) h in (w .0, f′ (w .0) (getD q₂ k 0) (w .1))
+
+-- a round goes by which steps there are from the nodes numbered v
+pub round-map : {R Q : ℕ → ℕ → Type 0} {v : ℕ} {d₀ q₀ d q : List ℕ} {n₀ n : ℕ} → ((a b : ℕ) → R a b → Q a b) → ((a b : ℕ) → Q a b → getD d₀ a 0 ≡ v → R a b)
+    → Round R v d₀ q₀ n₀ d q n → Round Q v d₀ q₀ n₀ d q n
+round-map f g ro =
+    record {
+      spread = record {
+        kept = ro .spread .kept;
+        new = λ i z. ⊎-elim inl (λ w. inr (w .0, (w .1 .0, w .1 .1, f (w .1 .0) i (w .1 .2)))) (ro .spread .new i z);
+        all = λ a i t l. ro .spread .all a i (g a i t l) l;
+      };
+      long = ro .long;
+      queue = ro .queue;
+      count = ro .count;
+      grows = ro .grows;
+      front = ro .front;
+      came = ro .came;
+      led = λ k l h. let w = ro .led k l h in (w .0, f _ _ (w .1));
+    }
+
+-- ---- the least next node, row by row
 
 module _ (on : ℕ → Bool) (near far : ℕ → ℕ) (k : ℕ) (limit : ℕ) (d : List ℕ) (a w best : ℕ) (ne : LeastNext limit (Via on near far k) d a w best) where
   pub next-stay : (on k ≡ true → near k ≡ a → getD d (far k) 0 ≡ w → best ≤ far k) → LeastNext limit (Via on near far (k + 1)) d a w best

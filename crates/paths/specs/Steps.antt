@@ -41,12 +41,33 @@ zeros [] = 0
 zeros (zero ∷ l) = suc (zeros l)
 zeros (suc n ∷ l) = zeros l
 
--- every row once: `fresh` nodes got a number
-pub record Round (R : ℕ → ℕ → Type 0) (v : ℕ) (d₀ d : List ℕ) (fresh : ℕ) : Type 0 where
+-- node i waits in the queue q, at a place from lo up to hi
+pub record Queued (q : List ℕ) (lo hi i : ℕ) : Type 0 where
+  pub place : ℕ
+  pub from : lo ≤ place
+  pub below : place < hi
+  pub is : getD q place 0 ≡ i
+
+-- the nodes below the limit that are numbered v wait from lo up to hi, and the queue has room for every node that has no number
+pub record Waiting (limit v : ℕ) (d q : List ℕ) (lo hi : ℕ) : Type 0 where
+  pub all : (i : ℕ) → i < limit → getD d i 0 ≡ v → Queued q lo hi i
+  pub inside : (k : ℕ) → lo ≤ k → k < hi → getD q k 0 < limit
+  pub room : hi + zeros d ≤ length q
+
+-- steps from one node
+abbrev pub From : ℕ → (ℕ → ℕ → Type 0) → ℕ → ℕ → Type 0
+From at R a b = (a ≡ at) × R a b
+
+-- the steps from the nodes numbered v were taken, and the nodes that got a number, and no others, came behind the n₀ that waited: now n wait
+pub record Round (R : ℕ → ℕ → Type 0) (v : ℕ) (d₀ q₀ : List ℕ) (n₀ : ℕ) (d q : List ℕ) (n : ℕ) : Type 0 where
   pub spread : Spread R v d₀ d
-  pub count : zeros d + fresh ≡ zeros d₀
-  pub none : fresh ≡ 0 → d ≡ d₀
   pub long : length d ≡ length d₀
+  pub queue : length q ≡ length q₀
+  pub count : n + zeros d ≡ n₀ + zeros d₀
+  pub grows : n₀ ≤ n
+  pub front : (k : ℕ) → k < n₀ → getD q k 0 ≡ getD q₀ k 0
+  pub came : (i : ℕ) → getD d₀ i 0 ≡ 0 → 0 < getD d i 0 → Queued q n₀ n i
+  pub led : (k : ℕ) → n₀ ≤ k → k < n → (a : ℕ) × R a (getD q k 0)
 
 -- r is the least node that a step leads to from a and that is numbered w, or the limit where there is none
 pub record LeastNext (limit : ℕ) (R : ℕ → ℕ → Type 0) (d : List ℕ) (a w r : ℕ) : Type 0 where

@@ -74,7 +74,9 @@ fn question_of(q: Request) -> Question {
             rule: q.a1,
             kind: 0,
             person: q.a2,
+            category: 0,
             deed: q.a3,
+            other: 0,
             folio: q.a4,
         };
     }
@@ -83,7 +85,9 @@ fn question_of(q: Request) -> Question {
         rule: 0,
         kind: q.a2,
         person: q.a3,
+        category: 0,
         deed: q.a4,
+        other: 0,
         folio: q.a5,
     }
 }
@@ -113,6 +117,44 @@ fn ask_payloads(q: Request, first: &[u8], second: &[u8], out: &mut [u32]) -> Rep
     replied(ask_words(q, &words[0..n], &list[0..m], out))
 }
 
+// What operations 5 to 10 ask: their second number is a category or a deed, and their third a folio or another deed.
+fn search_of(q: Request) -> Question {
+    Question {
+        office: q.a1,
+        rule: 0,
+        kind: 0,
+        person: 0,
+        category: q.a2,
+        deed: q.a2,
+        other: q.a3,
+        folio: q.a3,
+    }
+}
+
+// Operations 5 to 10 on words.
+fn list_words(q: Request, sheet: &[u32], out: &mut [u32]) -> Answer {
+    let search = search_of(q);
+    let operation = q.operation;
+    match operation {
+        5 => lists::persons_in_category(sheet, search, out),
+        6 => lists::persons_with_grant(sheet, search, out),
+        7 => lists::folios_out_of_reach(sheet, search, out),
+        8 => lists::least_triple(sheet, search, out),
+        9 => lists::least_holder(sheet, search, out),
+        _ => lists::redundant_edges(sheet, search, out),
+    }
+}
+
+// Operations 5 to 10 on the words of their payload.
+fn list_payload(q: Request, bytes: &[u8], out: &mut [u32]) -> Reply
+    requires { ⌜ length (now bytes) ≤ 80000 ⌝ }
+{
+    let mut words = [0u32; MAX_OUTPUT];
+    files::decode(bytes, &mut words);
+    let n = bytes.len() / 4;
+    replied(list_words(q, &words[0..n], out))
+}
+
 // The words of a payload, judged as a sheet.
 fn check_payload(bytes: &[u8]) -> Refusal
     requires { ⌜ length (now bytes) ≤ 80000 ⌝ }
@@ -131,6 +173,9 @@ fn answer(q: Request, first: &[u8], second: &[u8], out: &mut [u32]) -> Reply
     let operation = q.operation;
     if (1 <= operation) & (operation <= 4) {
         return ask_payloads(q, first, second, out);
+    }
+    if (5 <= operation) & (operation <= 10) {
+        return list_payload(q, first, out);
     }
     match operation {
         0 => told(check_payload(first)),

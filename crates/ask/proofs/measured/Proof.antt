@@ -3,7 +3,7 @@
 use mathlib.Core.Path.{_∙_}
 use native.Mathlib.Omega.{arith}
 use borrow.Author.Needs.{needs}
-use Rattle.ask.proofs.Deciding.{target-low, target-layers}
+use Rattle.walk.proofs.Starting.{target-low, target-layers}
 use Rattle.ask.proofs.measured.Statement.{statement}
 use Rattle.ask.proofs.measured.Tie as tie
 

@@ -1,0 +1,148 @@
+-- Questions 5 and 6: the persons from whose rows the walk leads to a category's or a folio's row are those in the category, or those with a grant path.
+-- Assumes nothing.
+use Prim.Native.Nat.{ℕ, zero, suc, _+_, _<_}
+use native.Mathlib.Omega.{arith}
+use mathlib.Core.Path.{_≡_, refl, sym, ap, subst, _∙_}
+use mathlib.Core.Bool.{Bool, true, false, false≢true}
+use mathlib.Core.List.{List}
+use mathlib.Core.Logic.{_⊎_, inl, inr, ⊎-elim}
+use lib.ListN.{length, getD, set}
+use lib.Seq.{getD-set-same, getD-set-other}
+use borrow.Author.Tests.{ltb-true}
+use Rattle.tables.specs.Key.{identity}
+use Rattle.sheet.specs.declared.Header.{Header}
+use Rattle.sheet.specs.Rows.{headerOf, nodeKeyAt}
+use Rattle.sheet.specs.Accepted.{WellFormed}
+use Rattle.sheet.specs.Named.{seenAt}
+use Rattle.sheet.proofs.Naming.{ends-seen}
+use Rattle.paths.proofs.Tests.{or-cases}
+use Rattle.paths.proofs.Rounds.{same-or}
+use Rattle.meaning.specs.Paths.{grant, person, category, folio, HasPath}
+use Rattle.meaning.specs.Forms.{Rising}
+use Rattle.meaning.specs.Questions.{InCategory, PersonsAre, HoldersAre}
+use Rattle.meaning.proofs.Axioms.{a1-a2}
+use Rattle.walk.specs.declared.Walk.{Walk}
+use Rattle.ask.specs.Asked.{FirstStanding, stands, someRow, known}
+use Rattle.ask.specs.Placed.{AtOffice}
+use Rattle.ask.proofs.Links.{walkFor}
+use Rattle.ask.proofs.Deciding.{words-of, found-class}
+use Rattle.reach.specs.Found.{Finds}
+use Rattle.reach.specs.Reaching.{Tells, LeadsTo}
+use Rattle.lists.specs.Picked.{PersonLeads, PersonsReach, wanted, PickedNumber}
+use Rattle.reach.proofs.Collecting.{rising-map, finds-map}
+use Rattle.reach.proofs.Leading.{plain-row, category-of, category-leads, folio-of, folio-leads}
+use Rattle.reach.proofs.Marking.{some-number, number-some}
+use Rattle.lists.proofs.Picking.{known-by}
+use Rattle.reach.proofs.Rows.{SeenRow, seen-row}
+
+-- some row passes
+some-row : (f : ℕ → Bool) (n : ℕ) → someRow f n ≡ true → (i : ℕ) × (i < n) × (f i ≡ true)
+unfolding someRow
+some-row f zero e = absurd (false≢true e)
+some-row f (suc n) e = go (or-cases (f n) (someRow f n) e) (λ q. some-row f n q)
+  where
+    go : (f n ≡ true) ⊎ (someRow f n ≡ true) → (someRow f n ≡ true → (i : ℕ) × (i < n) × (f i ≡ true)) → (i : ℕ) × (i < suc n) × (f i ≡ true)
+    go (inl q) later = (n, omega arith, q)
+    go (inr q) later = let r = later q in (r .0, omega (arith, r .1), r .2)
+
+-- one more row's number tells
+pub tells-more : (P C : ℕ → Type 0) (m : List ℕ) (i v : ℕ) → i < length m → ((j : ℕ) → j < i → C j → Tells (getD m j 0) (P j)) → (C i → Tells v (P i)) → (j : ℕ) → j < i + 1 → C j → Tells (getD (set m i v) j 0) (P j)
+tells-more P C m i v l h t j b c = ⊎-elim here before (same-or j i)
+  where
+    here : j ≡ i → Tells (getD (set m i v) j 0) (P j)
+    here e = rw (e, getD-set-same m i v 0 l) (t (subst C e c))
+
+    before : (j ≡ i → ⊥) → Tells (getD (set m i v) j 0) (P j)
+    before n = rw (getD-set-other m i j v 0 n) (h j (omega arith) c)
+
+module _ (s t : List ℕ) (h : Header) (w : Walk) (to : ℕ) (m : List ℕ) (r : PersonsReach s t h w to m) (office : ℕ) where
+  led : (x : ℕ) → PickedNumber s (h .nodes) office 1 true m x → PersonLeads s t h office w to x
+  unfolding wanted
+  led x p =
+      record {
+        row = p .row;
+        inside = p .inside;
+        class = p .picked .is-class;
+        bears = p .picked .bears;
+        numbered = p .numbered;
+        leads = r .each (p .row) (p .inside) (p .picked .is-class) .yes (some-number _ (p .picked .by));
+      }
+
+  picked : (x : ℕ) → PersonLeads s t h office w to x → PickedNumber s (h .nodes) office 1 true m x
+  unfolding wanted
+  picked x p =
+      record {
+        row = p .row;
+        inside = p .inside;
+        picked = record { is-class = p .class; bears = p .bears; by = number-some _ (λ z. r .each (p .row) (p .inside) (p .class) .no z (p .leads)) };
+        numbered = p .numbered;
+      }
+
+  -- the rows that were picked by the numbers are those that the walk leads from
+  pub led-found : {list : List ℕ} {n : ℕ} → Finds (Rising (PickedNumber s (h .nodes) office 1 true m)) list n → Finds (Rising (PersonLeads s t h office w to)) list n
+  led-found x = finds-map (λ ws. rising-map led picked) (λ ws. rising-map picked led) x
+
+-- no known number is 0
+pub known-some : (s t : List ℕ) (h : Header) → WellFormed s t h → (office c n : ℕ) → known s false office c n ≡ true → n ≡ 0 → ⊥
+unfolding known
+known-some s t h f office c n e z =
+    let r = some-row (stands s false office c n) (headerOf s .nodes) e in
+    let l = subst (λ (x : Header). r .0 < x .nodes) (sym (f .head)) (r .1) in
+    f .nodes .fit (r .0) l .number (found-class s false office c n (r .0) (r .2) .1 ∙ z)
+
+-- the row that a search found
+module _ (s t : List ℕ) (h : Header) (f : WellFormed s t h) (k c n to : ℕ) (e : known s false (suc k) c n ≡ true) (x : FirstStanding (stands s false (suc k) c n) (h .nodes) to) where
+  pub found-in : to < h .nodes
+  found-in = ltb-true to (h .nodes) (known-by s h k c n to (f .head) x ∙ e)
+
+  pub found-key : (c ≡ 3 → ⊥) → nodeKeyAt s to ≡ identity c n 0
+  found-key z =
+      let a = found-class s false (suc k) c n to (x .found found-in) in
+      plain-row s t h f to c found-in (a .0) z ∙ ap (λ (y : ℕ). identity c y 0) (a .1)
+
+module _ (s t : List ℕ) (h : Header) (k mark : ℕ) (at : AtOffice s t h k mark) (w : Walk) (d to : ℕ) (is : w ≡ record { mark = mark; right = 3; deed = d }) (inside : to < h .nodes) where
+  abbrev f : WellFormed s t h
+  f = at .formed
+
+  walks : w ≡ walkFor k grant d
+  walks = is ∙ ap (λ (x : ℕ). record { mark = x; right = 3; deed = d }) (at .mark-is)
+
+  own : (i : ℕ) → LeadsTo s t h w i to → LeadsTo s t h (walkFor k grant d) i to
+  own i l = subst (λ (x : Walk). LeadsTo s t h x i to) walks l
+
+  back : (i : ℕ) → LeadsTo s t h (walkFor k grant d) i to → LeadsTo s t h w i to
+  back i l = subst (λ (x : Walk). LeadsTo s t h x i to) (sym walks) l
+
+  key : (p : ℕ) (l : PersonLeads s t h (suc k) w to p) → nodeKeyAt s (l .row) ≡ person p
+  key p l = plain-row s t h f (l .row) 1 (l .inside) (l .class) (λ z. omega arith) ∙ ap person (l .numbered)
+
+  -- a person's row from which the walk leads
+  leading : (p : ℕ) (r : SeenRow s h (suc k) 1 p 0) → LeadsTo s t h (walkFor k grant d) (r .row) to → PersonLeads s t h (suc k) w to p
+  leading p r l = record { row = r .row; inside = r .inside; class = cc (r .names); bears = r .bears; numbered = cc (r .names); leads = back (r .row) l }
+
+  module _ (c : ℕ) (is-category : nodeKeyAt s to ≡ category c) where
+    into : (p : ℕ) → PersonLeads s t h (suc k) w to p → InCategory (seenAt s (suc k)) c p
+    into p l = category-of s t h f k d (l .row) to p c (l .inside) (key p l) inside is-category (own (l .row) (l .leads))
+
+    out : (p : ℕ) → InCategory (seenAt s (suc k)) c p → PersonLeads s t h (suc k) w to p
+    out p i =
+        let r = seen-row s t h f (suc k) 1 p 0 (ends-seen s (words-of s t h f) (suc k) 1 1 p 0 2 (i .directly) 0 (i .member-of) .0) in
+        leading p r (category-leads s t h f k d (r .row) to p c (r .inside) (r .names) inside is-category i)
+
+    pub persons-found : {list : List ℕ} {n : ℕ} → Finds (Rising (PersonLeads s t h (suc k) w to)) list n → Finds (PersonsAre (seenAt s (suc k)) c) list n
+    persons-found x = finds-map (λ ws. rising-map into out) (λ ws. rising-map out into) x
+
+  module _ (n : ℕ) (is-folio : nodeKeyAt s to ≡ folio n) (some : d ≡ 0 → ⊥) where
+    holds : (p : ℕ) → PersonLeads s t h (suc k) w to p → HasPath (seenAt s (suc k)) grant p d n
+    holds p l =
+        let r = folio-of s t h f k grant d (l .row) to p n (key p l) is-folio (own (l .row) (l .leads)) in
+        subst (λ (x : ℕ). HasPath (seenAt s (suc k)) grant p x n) (r .1 some) (r .2)
+
+    held : (p : ℕ) → HasPath (seenAt s (suc k)) grant p d n → PersonLeads s t h (suc k) w to p
+    held p i =
+        let a = a1-a2 (seenAt s (suc k)) p d n grant .0 i in
+        let r = seen-row s t h f (suc k) 1 p 0 (ends-seen s (words-of s t h f) (suc k) 1 1 p 0 2 (a .c) 0 (a .assigned) .0) in
+        leading p r (folio-leads s t h f k grant d (r .row) to p d n (r .inside) (r .names) inside is-folio (λ z. refl) i)
+
+    pub holders-found : {list : List ℕ} {m : ℕ} → Finds (Rising (PersonLeads s t h (suc k) w to)) list m → Finds (HoldersAre (seenAt s (suc k)) d n) list m
+    holders-found x = finds-map (λ ws. rising-map holds held) (λ ws. rising-map held holds) x

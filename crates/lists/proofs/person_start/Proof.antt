@@ -1,0 +1,16 @@
+-- `lists::person_start` meets its contract.
+-- Assumes nothing.
+use Rattle.ask.specs.Listed.{numberOf}
+use borrow.Author.Tests.{eq-eqb, ne-eqb}
+use mathlib.Core.Path.{sym, ap}
+use Rattle.lists.proofs.person_start.Statement.{statement}
+use Rattle.lists.proofs.person_start.Tie as tie
+
+returns : tie.Need-returns
+returns c = sym (ap numberOf (eq-eqb _ 1 (c .if1 .taken)))
+
+returns-2 : tie.Need-returns-2
+returns-2 c = sym (ap numberOf (ne-eqb _ 1 (c .if1 .left)))
+
+pub person-start-spec : {M : Type 1} → statement M
+person-start-spec = tie.close (tie.spec returns returns-2)

@@ -1,0 +1,481 @@
+// Questions 5 to 10: the persons in a category, the holders of a right, the folios out of reach, the least triple that is Both, the least pair, and the redundant rows.
+use ask::Answer;
+use ask::Question;
+use sheet::Header;
+use sheet::Node;
+use walk::Walk;
+ghost use mathlib.Core.Path.{_≡_};
+ghost use mathlib.Core.Bool.{true, false, _&&_, not};
+ghost use Prim.Native.Nat.{suc, _/_, _%_, _^_, _<_, _≤_};
+ghost use lib.ListN.{length, take, drop};
+ghost use mathlib.Core.List.{_++_};
+ghost use Rattle.sheet.specs.Limits.{maxNodes, maxEdges};
+ghost use Rattle.sheet.specs.Refusals.{_is_, _orElse_, none};
+ghost use Rattle.sheet.specs.Rows.{headerOf, nodeAt};
+ghost use Rattle.sheet.specs.Accepted.{NodesFormed, WellFormed};
+ghost use Rattle.sheet.specs.Named.{seenAt};
+ghost use Rattle.walk.specs.Arcs.{Arranged};
+ghost use Rattle.meaning.specs.Forms.{Rising};
+ghost use Rattle.meaning.specs.Questions.{PersonsAre, HoldersAre, UnreachedAre, LeastBothIs, LeastPairIs, RedundantAre};
+ghost use Rattle.ask.specs.Asked.{known, badOffice, plain, afterSheet};
+ghost use Rattle.ask.specs.Listed.{numberOf};
+ghost use Rattle.ask.specs.Placed.{AtOffice};
+ghost use Rattle.ask.specs.Replies.{Shows};
+ghost use Rattle.reach.specs.Found.{noneFound, Finds};
+ghost use Rattle.lists.specs.Handed.{Handed};
+ghost use Rattle.lists.specs.Sought.{unknownCategory, unknownRight, badPair, soughtFault, soughtIs};
+ghost use Rattle.reach.specs.Reaching.{Tells, LeadsTo, Started};
+ghost use Rattle.lists.specs.Picked.{PersonLeads, PersonsReach, PersonsLead, wanted, PickedNumber};
+
+// One number for each node row.
+const ROWS: usize = sheet::MAX_NODES as usize;
+
+// The longest list, one word for each edge row.
+const LIST: usize = sheet::MAX_EDGES as usize;
+
+// Whether a number is some, or none, as it is asked for.
+fn is_wanted(reached: bool, v: u32) -> bool
+    ensures { λ r. ⌜ r ≡ wanted reached v ⌝ }
+{
+    if reached {
+        return v != 0;
+    }
+    v == 0
+}
+
+// Whether a node row has the type and the mark, and its number v is wanted.
+fn is_picked(r: Node, mark: u32, class: u32, reached: bool, v: u32) -> bool
+    requires { ⌜ 0 < mark ⌝ }
+    ensures { λ b. ⌜ b ≡ ((r .class is class) && (((r .offices / mark % 2) is 1) && wanted reached v)) ⌝ }
+{
+    let good = is_wanted(reached, v);
+    (r.class == class) & ((r.offices / mark % 2 == 1) & good)
+}
+
+// The numbers of the rows of a type that office k + 1 has and whose number in d is some, or none, rising.
+fn numbers_of(
+    sheet: &[u32],
+    h: Header,
+    k: u32,
+    mark: u32,
+    class: u32,
+    reached: bool,
+    d: [u32; ROWS],
+    list: &mut [u32],
+) -> u32
+    requires { ⌜ NodesFormed (now sheet) h × (mark ≡ 2 ^ k) × (0 < mark) × (class ≡ 3 → ⊥) × (length d ≡ maxNodes) × (length (now list) ≡ maxEdges) ⌝ }
+    ensures { λ r. ⌜ Finds (Rising (PickedNumber (now (sheet .entry)) (h .nodes) (suc k) class reached d)) (now (list .exit)) r ⌝ }
+{
+    let rows = h.nodes;
+    let mut n: u32 = 0;
+    let mut i: u32 = 0;
+    while i < rows {
+        let at = i as usize;
+        let r = sheet::node_at(sheet, at);
+        let good = is_picked(r, mark, class, reached, d[at]);
+        n = reach::put(list, n, good, r.number);
+        i += 1;
+    }
+    n
+}
+
+// Whether the walk leads from a person's row to a row: 0 no, any other yes.
+fn person_reaches(
+    sheet: &[u32],
+    edges: &[u32],
+    h: Header,
+    w: Walk,
+    head: &[u32],
+    next: &[u32],
+    from: u32,
+    to: u32,
+) -> u32
+    requires { ⌜ WellFormed (now sheet) (now edges) h × (0 < w .mark) × Arranged (now sheet) (now edges) h w false (now head) (now next) × (from < h .nodes) × (to < h .nodes) ⌝ }
+    ensures { λ r. ⌜ (nodeAt (now (sheet .entry)) from .class ≡ 1 → Tells r (LeadsTo (now (sheet .entry)) (now (edges .entry)) h w from to)) ⌝ }
+{
+    let r = sheet::node_at(sheet, from as usize);
+    if r.class != 1 {
+        return 0;
+    }
+    let d = reach::person_reach(sheet, edges, h, w, head, next, from);
+    let at = to as usize;
+    d[at]
+}
+
+// For each person's row, whether the walk leads from it to a row: 0 no, any other yes.
+fn persons_reaching(
+    sheet: &[u32],
+    edges: &[u32],
+    h: Header,
+    w: Walk,
+    head: &[u32],
+    next: &[u32],
+    to: u32,
+) -> [u32; ROWS]
+    requires { ⌜ WellFormed (now sheet) (now edges) h × (0 < w .mark) × Arranged (now sheet) (now edges) h w false (now head) (now next) × (to < h .nodes) ⌝ }
+    ensures { λ r. ⌜ PersonsReach (now (sheet .entry)) (now (edges .entry)) h w to r ⌝ }
+{
+    let mut m = [0u32; ROWS];
+    let n = h.nodes;
+    let mut i: u32 = 0;
+    while i < n {
+        let at = i as usize;
+        m[at] = person_reaches(sheet, edges, h, w, head, next, i, to);
+        i += 1;
+    }
+    m
+}
+
+// The numbers of the persons of office k + 1 from whose rows the grants' walk for a deed leads to a row, rising.
+fn persons_to(
+    sheet: &[u32],
+    edges: &[u32],
+    h: Header,
+    k: u32,
+    mark: u32,
+    deed: u32,
+    to: u32,
+    list: &mut [u32],
+) -> u32
+    requires { ⌜ AtOffice (now sheet) (now edges) h k mark × (to < h .nodes) × (length (now list) ≡ maxEdges) ⌝ }
+    ensures { λ r. ⌜ Finds (Rising (PersonLeads (now (sheet .entry)) (now (edges .entry)) h (suc k) (record { mark = mark; right = 3; deed = deed }) to)) (now (list .exit)) r ⌝ }
+{
+    let w = Walk {
+        mark: mark,
+        right: 3,
+        deed: deed,
+    };
+    let mut head = [0u32; ROWS];
+    let mut next = [0u32; LIST];
+    walk::arrange(sheet, edges, h, w, false, &mut head, &mut next);
+    let m = persons_reaching(sheet, edges, h, w, &head, &next, to);
+    numbers_of(sheet, h, k, mark, 1, true, m, list)
+}
+
+// Question 5 at office k + 1: the persons in a category that it knows.
+fn persons_within(
+    sheet: &[u32],
+    edges: &[u32],
+    h: Header,
+    k: u32,
+    mark: u32,
+    q: Question,
+    list: &mut [u32],
+) -> u32
+    requires { ⌜ AtOffice (now sheet) (now edges) h k mark × (known (now sheet) false (suc k) 2 (q .category) ≡ true) × (length (now list) ≡ maxEdges) ⌝ }
+    ensures { λ r. ⌜ Finds (PersonsAre (seenAt (now (sheet .entry)) (suc k)) (q .category)) (now (list .exit)) r ⌝ }
+{
+    let to = ask::seek(sheet, h, false, k, mark, 2, q.category);
+    persons_to(sheet, edges, h, k, mark, 0, to, list)
+}
+
+// Question 6 at office k + 1: the persons with a grant path for a deed and a folio that it knows.
+fn persons_holding(
+    sheet: &[u32],
+    edges: &[u32],
+    h: Header,
+    k: u32,
+    mark: u32,
+    q: Question,
+    list: &mut [u32],
+) -> u32
+    requires { ⌜ AtOffice (now sheet) (now edges) h k mark × (known (now sheet) false (suc k) 3 (q .deed) ≡ true) × (known (now sheet) false (suc k) 4 (q .folio) ≡ true) × (length (now list) ≡ maxEdges) ⌝ }
+    ensures { λ r. ⌜ Finds (HoldersAre (seenAt (now (sheet .entry)) (suc k)) (q .deed) (q .folio)) (now (list .exit)) r ⌝ }
+{
+    let to = ask::seek(sheet, h, false, k, mark, 4, q.folio);
+    persons_to(sheet, edges, h, k, mark, q.deed, to, list)
+}
+
+// 1 at a person's row, 0 at any other.
+fn person_start(r: Node) -> u32
+    ensures { λ x. ⌜ x ≡ numberOf (r .class is 1) ⌝ }
+{
+    if r.class == 1 {
+        return 1;
+    }
+    0
+}
+
+// 1 at the persons' rows, 0 at every other row.
+fn person_starts(sheet: &[u32], h: Header) -> [u32; ROWS]
+    requires { ⌜ NodesFormed (now sheet) h ⌝ }
+    ensures { λ r. ⌜ Started (λ i. nodeAt (now (sheet .entry)) i .class is 1) (h .nodes) r ⌝ }
+{
+    let mut starts = [0u32; ROWS];
+    let n = h.nodes;
+    let mut i: u32 = 0;
+    while i < n {
+        let at = i as usize;
+        let r = sheet::node_at(sheet, at);
+        starts[at] = person_start(r);
+        i += 1;
+    }
+    starts
+}
+
+// For each row, whether the walk leads to it from some person's: 0 no, any other yes.
+fn persons_lead(
+    sheet: &[u32],
+    edges: &[u32],
+    h: Header,
+    w: Walk,
+    head: &[u32],
+    next: &[u32],
+) -> [u32; ROWS]
+    requires { ⌜ WellFormed (now sheet) (now edges) h × (0 < w .mark) × Arranged (now sheet) (now edges) h w false (now head) (now next) ⌝ }
+    ensures { λ r. ⌜ PersonsLead (now (sheet .entry)) (now (edges .entry)) h w r ⌝ }
+{
+    let mut rows = person_starts(sheet, h);
+    walk::run(sheet, edges, h, w, false, h.edges, head, next, &mut rows);
+    rows
+}
+
+// Question 7 at office k + 1: the folios to which no person has a grant path by any deed.
+fn folios_unreached(
+    sheet: &[u32],
+    edges: &[u32],
+    h: Header,
+    k: u32,
+    mark: u32,
+    list: &mut [u32],
+) -> u32
+    requires { ⌜ AtOffice (now sheet) (now edges) h k mark × (length (now list) ≡ maxEdges) ⌝ }
+    ensures { λ r. ⌜ Finds (UnreachedAre (seenAt (now (sheet .entry)) (suc k))) (now (list .exit)) r ⌝ }
+{
+    let w = Walk {
+        mark: mark,
+        right: 3,
+        deed: 0,
+    };
+    let mut head = [0u32; ROWS];
+    let mut next = [0u32; LIST];
+    walk::arrange(sheet, edges, h, w, false, &mut head, &mut next);
+    let d = persons_lead(sheet, edges, h, w, &head, &next);
+    numbers_of(sheet, h, k, mark, 4, false, d, list)
+}
+
+// Whether office k + 1 knows a type and number.
+fn is_known(sheet: &[u32], h: Header, k: u32, mark: u32, class: u32, number: u32) -> bool
+    requires { ⌜ NodesFormed (now sheet) h × (h ≡ headerOf (now sheet)) × (mark ≡ 2 ^ k) × (0 < mark) ⌝ }
+    ensures { λ r. ⌜ r ≡ known (now (sheet .entry)) false (suc k) class number ⌝ }
+{
+    ask::seek(sheet, h, false, k, mark, class, number) < h.nodes
+}
+
+// Question 5: 24 where office k + 1 does not know the category.
+fn unknown_category(sheet: &[u32], h: Header, k: u32, mark: u32, q: Question) -> u32
+    requires { ⌜ NodesFormed (now sheet) h × (h ≡ headerOf (now sheet)) × (mark ≡ 2 ^ k) × (0 < mark) × (q .office ≡ suc k) ⌝ }
+    ensures { λ r. ⌜ r ≡ unknownCategory (now (sheet .entry)) q ⌝ }
+{
+    if !is_known(sheet, h, k, mark, 2, q.category) {
+        return 24;
+    }
+    0
+}
+
+// Question 6: 22, 23 where office k + 1 does not know the deed or the folio.
+fn unknown_right(sheet: &[u32], h: Header, k: u32, mark: u32, q: Question) -> u32
+    requires { ⌜ NodesFormed (now sheet) h × (h ≡ headerOf (now sheet)) × (mark ≡ 2 ^ k) × (0 < mark) × (q .office ≡ suc k) ⌝ }
+    ensures { λ r. ⌜ r ≡ unknownRight (now (sheet .entry)) q ⌝ }
+{
+    if !is_known(sheet, h, k, mark, 3, q.deed) {
+        return 22;
+    }
+    if !is_known(sheet, h, k, mark, 4, q.folio) {
+        return 23;
+    }
+    0
+}
+
+// Question 9: 22 where office k + 1 does not know one of the deeds, 31 where they are one.
+fn bad_pair(sheet: &[u32], h: Header, k: u32, mark: u32, q: Question) -> u32
+    requires { ⌜ NodesFormed (now sheet) h × (h ≡ headerOf (now sheet)) × (mark ≡ 2 ^ k) × (0 < mark) × (q .office ≡ suc k) ⌝ }
+    ensures { λ r. ⌜ r ≡ badPair (now (sheet .entry)) q ⌝ }
+{
+    if !is_known(sheet, h, k, mark, 3, q.deed) {
+        return 22;
+    }
+    if !is_known(sheet, h, k, mark, 3, q.other) {
+        return 22;
+    }
+    if q.deed == q.other {
+        return 31;
+    }
+    0
+}
+
+// What is refused of a question of office k + 1, by the question's number.
+fn fault_at(number: u32, sheet: &[u32], h: Header, k: u32, mark: u32, q: Question) -> u32
+    requires { ⌜ NodesFormed (now sheet) h × (h ≡ headerOf (now sheet)) × (mark ≡ 2 ^ k) × (0 < mark) × (q .office ≡ suc k) × (badOffice h (q .office) ≡ 0) ⌝ }
+    ensures { λ r. ⌜ r ≡ soughtFault number (now (sheet .entry)) q ⌝ }
+{
+    if number == 5 {
+        return unknown_category(sheet, h, k, mark, q);
+    }
+    if number == 6 {
+        return unknown_right(sheet, h, k, mark, q);
+    }
+    if number == 9 {
+        return bad_pair(sheet, h, k, mark, q);
+    }
+    0
+}
+
+// Copies the first n words of a list to the front of the output.
+fn copy(list: &[u32], n: usize, out: &mut [u32])
+    requires { ⌜ (n ≤ length (now list)) × (n ≤ length (now out)) ⌝ }
+    ensures { λ _. ⌜ now (out .exit) ≡ take n (now (list .entry)) ++ drop n (now (out .entry)) ⌝ }
+{
+    let mut i: usize = 0;
+    while i < n {
+        out[i] = list[i];
+        i += 1;
+    }
+}
+
+// Hands over what was found: 26 where nothing was, 25 where the output is shorter.
+fn hand_over(list: &[u32], n: u32, out: &mut [u32]) -> Answer
+    requires { ⌜ ((n ≡ noneFound → ⊥) → n ≤ length (now list)) ⌝ }
+    ensures { λ a. ⌜ Handed (now (list .entry)) n (now (out .entry)) a (now (out .exit)) ⌝ }
+{
+    if n == reach::NONE {
+        return ask::refused_by(26);
+    }
+    let size = n as usize;
+    if out.len() < size {
+        return ask::refused_by(25);
+    }
+    copy(list, size, out);
+    ask::told(0, n)
+}
+
+// What question 5, 6 and so on to 10 finds at office k + 1, by the question's number, where nothing is refused.
+fn found(
+    number: u32,
+    sheet: &[u32],
+    edges: &[u32],
+    h: Header,
+    k: u32,
+    mark: u32,
+    q: Question,
+    list: &mut [u32],
+) -> u32
+    requires { ⌜ AtOffice (now sheet) (now edges) h k mark × (q .office ≡ suc k) × (soughtFault number (now sheet) q ≡ 0) × (length (now list) ≡ maxEdges) ⌝ }
+    ensures { λ r. ⌜ Finds (soughtIs number (now (sheet .entry)) q) (now (list .exit)) r ⌝ }
+{
+    if number == 5 {
+        return persons_within(sheet, edges, h, k, mark, q, list);
+    }
+    if number == 6 {
+        return persons_holding(sheet, edges, h, k, mark, q, list);
+    }
+    if number == 7 {
+        return folios_unreached(sheet, edges, h, k, mark, list);
+    }
+    if number == 8 {
+        return least::least_both(sheet, edges, h, k, mark, list);
+    }
+    if number == 9 {
+        return least::least_pair(sheet, edges, h, k, mark, q, list);
+    }
+    redundant::redundant_rows(sheet, edges, h, k, mark, list)
+}
+
+// A question's answer at office k + 1, where nothing is refused but 26 and 25.
+fn sought_at(
+    number: u32,
+    sheet: &[u32],
+    edges: &[u32],
+    h: Header,
+    k: u32,
+    mark: u32,
+    q: Question,
+    out: &mut [u32],
+) -> Answer
+    requires { ⌜ AtOffice (now sheet) (now edges) h k mark × (q .office ≡ suc k) × (soughtFault number (now sheet) q ≡ 0) ⌝ }
+    ensures { λ a. ⌜ Shows none (soughtIs number (now (sheet .entry)) q) (now (out .entry)) a (now (out .exit)) ⌝ }
+{
+    let mut list = [0u32; LIST];
+    let n = found(number, sheet, edges, h, k, mark, q, &mut list);
+    hand_over(&list, n, out)
+}
+
+// A question on a sheet that was checked.
+fn sought_checked(
+    number: u32,
+    sheet: &[u32],
+    edges: &[u32],
+    h: Header,
+    q: Question,
+    out: &mut [u32],
+) -> Answer
+    requires { ⌜ WellFormed (now sheet) (now edges) h ⌝ }
+    ensures { λ a. ⌜ Shows (plain (soughtFault number (now (sheet .entry)) q)) (soughtIs number (now (sheet .entry)) q) (now (out .entry)) a (now (out .exit)) ⌝ }
+{
+    let n = ask::bad_office(h, q.office);
+    if n != 0 {
+        return ask::refused_by(n);
+    }
+    let k = q.office - 1;
+    let mark = ask::mark_of(k);
+    let m = fault_at(number, sheet, h, k, mark, q);
+    if m != 0 {
+        return ask::refused_by(m);
+    }
+    sought_at(number, sheet, edges, h, k, mark, q, out)
+}
+
+// Questions 5 to 10 by their numbers: each entry below is one.
+fn sought(number: u32, sheet: &[u32], q: Question, out: &mut [u32]) -> Answer
+    ensures { λ a. ⌜ Shows (afterSheet (now (sheet .entry)) (soughtFault number (now (sheet .entry)) q)) (soughtIs number (now (sheet .entry)) q) (now (out .entry)) a (now (out .exit)) ⌝ }
+{
+    let r = verdict::check(sheet);
+    if r.number != 0 {
+        return ask::refused(r);
+    }
+    let h = sheet::header_of(sheet);
+    let from = h.edgeoffset as usize;
+    sought_checked(number, sheet, &sheet[from..], h, q, out)
+}
+
+// Question 5, the numbers of the persons in a category, directly or through containment, rising; how many in `count`.
+pub fn persons_in_category(sheet: &[u32], q: Question, out: &mut [u32]) -> Answer
+    ensures { λ a. ⌜ Shows (afterSheet (now (sheet .entry)) (badOffice (headerOf (now (sheet .entry))) (q .office) orElse unknownCategory (now (sheet .entry)) q)) (PersonsAre (seenAt (now (sheet .entry)) (q .office)) (q .category)) (now (out .entry)) a (now (out .exit)) ⌝ }
+{
+    sought(5, sheet, q, out)
+}
+
+// Question 6, the numbers of the persons who have a grant path for a deed and a folio, rising; how many in `count`.
+pub fn persons_with_grant(sheet: &[u32], q: Question, out: &mut [u32]) -> Answer
+    ensures { λ a. ⌜ Shows (afterSheet (now (sheet .entry)) (badOffice (headerOf (now (sheet .entry))) (q .office) orElse unknownRight (now (sheet .entry)) q)) (HoldersAre (seenAt (now (sheet .entry)) (q .office)) (q .deed) (q .folio)) (now (out .entry)) a (now (out .exit)) ⌝ }
+{
+    sought(6, sheet, q, out)
+}
+
+// Question 7, the numbers of the folios to which no person has a grant path by any deed, rising; how many in `count`.
+pub fn folios_out_of_reach(sheet: &[u32], q: Question, out: &mut [u32]) -> Answer
+    ensures { λ a. ⌜ Shows (afterSheet (now (sheet .entry)) (badOffice (headerOf (now (sheet .entry))) (q .office))) (UnreachedAre (seenAt (now (sheet .entry)) (q .office))) (now (out .entry)) a (now (out .exit)) ⌝ }
+{
+    sought(7, sheet, q, out)
+}
+
+// Question 8, the least triple that is Both: person, deed and folio; 3 in `count`, 26 where there is none.
+pub fn least_triple(sheet: &[u32], q: Question, out: &mut [u32]) -> Answer
+    ensures { λ a. ⌜ Shows (afterSheet (now (sheet .entry)) (badOffice (headerOf (now (sheet .entry))) (q .office))) (LeastBothIs (seenAt (now (sheet .entry)) (q .office))) (now (out .entry)) a (now (out .exit)) ⌝ }
+{
+    sought(8, sheet, q, out)
+}
+
+// Question 9, the least person and folio with a grant path for each of two deeds; 2 in `count`, 26 where there is none.
+pub fn least_holder(sheet: &[u32], q: Question, out: &mut [u32]) -> Answer
+    ensures { λ a. ⌜ Shows (afterSheet (now (sheet .entry)) (badOffice (headerOf (now (sheet .entry))) (q .office) orElse badPair (now (sheet .entry)) q)) (LeastPairIs (seenAt (now (sheet .entry)) (q .office)) (q .deed) (q .other)) (now (out .entry)) a (now (out .exit)) ⌝ }
+{
+    sought(9, sheet, q, out)
+}
+
+// Question 10, the rows of the edge table that are redundant at an office, by index from 0, rising; how many in `count`.
+pub fn redundant_edges(sheet: &[u32], q: Question, out: &mut [u32]) -> Answer
+    ensures { λ a. ⌜ Shows (afterSheet (now (sheet .entry)) (badOffice (headerOf (now (sheet .entry))) (q .office))) (RedundantAre (now (sheet .entry)) (q .office)) (now (out .entry)) a (now (out .exit)) ⌝ }
+{
+    sought(10, sheet, q, out)
+}

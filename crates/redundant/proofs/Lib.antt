@@ -1,0 +1,2 @@
+pub mod Detours
+pub mod Pruning

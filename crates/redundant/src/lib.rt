@@ -1,0 +1,190 @@
+// Question 10 at an office: the rows that are redundant, each judged by a walk without it.
+use ask::Question;
+use sheet::Header;
+use walk::Walk;
+ghost use mathlib.Core.Path.{_≡_};
+ghost use mathlib.Core.Bool.{false};
+ghost use Prim.Native.Nat.{suc, _/_, _%_, _<_};
+ghost use lib.ListN.{length};
+ghost use Rattle.sheet.specs.Limits.{maxEdges};
+ghost use Rattle.sheet.specs.Refusals.{_is_, none};
+ghost use Rattle.sheet.specs.Accepted.{WellFormed};
+ghost use Rattle.walk.specs.Arcs.{Arranged};
+ghost use Rattle.meaning.specs.Answers.{Says};
+ghost use Rattle.meaning.specs.Questions.{RedundantRow, RedundantAre};
+ghost use Rattle.ask.specs.Placed.{AtOffice};
+ghost use Rattle.reach.specs.Found.{Finds};
+ghost use Rattle.redundant.specs.Pruned.{BothArranged, PastRow};
+
+// One number for each node row.
+const ROWS: usize = sheet::MAX_NODES as usize;
+
+// The longest list, one word for each edge row.
+const LIST: usize = sheet::MAX_EDGES as usize;
+
+// How many steps lead to each node row from a row by the walk that judges a row of the kind, without that row j, and one; 0 where none do.
+fn past_row(
+    sheet: &[u32],
+    edges: &[u32],
+    h: Header,
+    mark: u32,
+    kind: u32,
+    granthead: &[u32],
+    grantnext: &[u32],
+    banhead: &[u32],
+    bannext: &[u32],
+    j: u32,
+    from: u32,
+) -> [u32; ROWS]
+    requires { ⌜ WellFormed (now sheet) (now edges) h × (0 < mark) × BothArranged (now sheet) (now edges) h mark (now granthead) (now grantnext) (now banhead) (now bannext) × (from < h .nodes) ⌝ }
+    ensures { λ r. ⌜ PastRow (now (sheet .entry)) (now (edges .entry)) h mark kind j from r ⌝ }
+{
+    if kind == 4 {
+        let bans = Walk {
+            mark: mark,
+            right: 4,
+            deed: 0,
+        };
+        return walk::reach(sheet, edges, h, bans, j, banhead, bannext, from);
+    }
+    let grants = Walk {
+        mark: mark,
+        right: 3,
+        deed: 0,
+    };
+    walk::reach(sheet, edges, h, grants, j, granthead, grantnext, from)
+}
+
+// Whether an edge row is marked and redundant at office k + 1: its to end is reached from its from end by the other rows.
+fn is_redundant(
+    sheet: &[u32],
+    edges: &[u32],
+    h: Header,
+    k: u32,
+    mark: u32,
+    granthead: &[u32],
+    grantnext: &[u32],
+    banhead: &[u32],
+    bannext: &[u32],
+    j: u32,
+) -> bool
+    requires { ⌜ AtOffice (now sheet) (now edges) h k mark × (j < h .edges) × BothArranged (now sheet) (now edges) h mark (now granthead) (now grantnext) (now banhead) (now bannext) ⌝ }
+    ensures { λ r. ⌜ Says r (RedundantRow (now (sheet .entry)) (suc k) j) ⌝ }
+{
+    let e = sheet::edge_at(edges, h, j as usize);
+    if e.offices / mark % 2 != 1 {
+        return false;
+    }
+    let d = past_row(
+        sheet,
+        edges,
+        h,
+        mark,
+        e.kind,
+        granthead,
+        grantnext,
+        banhead,
+        bannext,
+        j,
+        e.from,
+    );
+    let to = e.to as usize;
+    d[to] != 0
+}
+
+// The rows that are redundant at office k + 1, rising, by arcs that are in order.
+fn prune(
+    sheet: &[u32],
+    edges: &[u32],
+    h: Header,
+    k: u32,
+    mark: u32,
+    granthead: &[u32],
+    grantnext: &[u32],
+    banhead: &[u32],
+    bannext: &[u32],
+    list: &mut [u32],
+) -> u32
+    requires { ⌜ AtOffice (now sheet) (now edges) h k mark × BothArranged (now sheet) (now edges) h mark (now granthead) (now grantnext) (now banhead) (now bannext) × (length (now list) ≡ maxEdges) ⌝ }
+    ensures { λ r. ⌜ Finds (RedundantAre (now (sheet .entry)) (suc k)) (now (list .exit)) r ⌝ }
+{
+    let rows = h.edges;
+    let mut n: u32 = 0;
+    let mut j: u32 = 0;
+    while j < rows {
+        let good = is_redundant(
+            sheet,
+            edges,
+            h,
+            k,
+            mark,
+            granthead,
+            grantnext,
+            banhead,
+            bannext,
+            j,
+        );
+        n = reach::put(list, n, good, j);
+        j += 1;
+    }
+    n
+}
+
+// The rows that are redundant at office k + 1, rising, once the grants' arcs are in order.
+fn redundant_past(
+    sheet: &[u32],
+    edges: &[u32],
+    h: Header,
+    k: u32,
+    mark: u32,
+    granthead: &[u32],
+    grantnext: &[u32],
+    list: &mut [u32],
+) -> u32
+    requires { ⌜ AtOffice (now sheet) (now edges) h k mark × Arranged (now sheet) (now edges) h (record { mark = mark; right = 3; deed = 0 }) false (now granthead) (now grantnext) × (length (now list) ≡ maxEdges) ⌝ }
+    ensures { λ r. ⌜ Finds (RedundantAre (now (sheet .entry)) (suc k)) (now (list .exit)) r ⌝ }
+{
+    let bans = Walk {
+        mark: mark,
+        right: 4,
+        deed: 0,
+    };
+    let mut head = [0u32; ROWS];
+    let mut next = [0u32; LIST];
+    walk::arrange(sheet, edges, h, bans, false, &mut head, &mut next);
+    prune(
+        sheet,
+        edges,
+        h,
+        k,
+        mark,
+        granthead,
+        grantnext,
+        &head,
+        &next,
+        list,
+    )
+}
+
+// Question 10 at office k + 1: the rows that are redundant, rising.
+pub fn redundant_rows(
+    sheet: &[u32],
+    edges: &[u32],
+    h: Header,
+    k: u32,
+    mark: u32,
+    list: &mut [u32],
+) -> u32
+    requires { ⌜ AtOffice (now sheet) (now edges) h k mark × (length (now list) ≡ maxEdges) ⌝ }
+    ensures { λ r. ⌜ Finds (RedundantAre (now (sheet .entry)) (suc k)) (now (list .exit)) r ⌝ }
+{
+    let grants = Walk {
+        mark: mark,
+        right: 3,
+        deed: 0,
+    };
+    let mut head = [0u32; ROWS];
+    let mut next = [0u32; LIST];
+    walk::arrange(sheet, edges, h, grants, false, &mut head, &mut next);
+    redundant_past(sheet, edges, h, k, mark, &head, &next, list)
+}

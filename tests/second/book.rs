@@ -1,0 +1,154 @@
+//! A book of named questions: what each asks, and literally what the document
+//! says of it.
+
+use crate::answer::{ANSWER, JOINT, LISTED, WITNESS};
+use crate::inquiry::Inquiry;
+use crate::sheet::*;
+
+#[derive(Clone, Debug)]
+pub enum Says {
+    /// number, sheet, row
+    Refused(u32, u32, u32),
+    Value(u32),
+    /// the answer, and the office that decides
+    Joint(u32, u32),
+    /// a path, a list, a triple or a pair
+    Written(Vec<u32>),
+}
+
+impl Says {
+    /// The first seven words of the reply, and what is written.
+    pub fn reply(&self) -> ([u32; 7], Vec<u32>) {
+        match self {
+            Says::Refused(number, sheet, row) => ([*number, *sheet, *row, 0, 0, 0, 0], Vec::new()),
+            Says::Value(value) => ([0, 0, 0, *value, 0, 0, 0], Vec::new()),
+            Says::Joint(value, office) => ([0, 0, 0, *value, *office, 0, 0], Vec::new()),
+            Says::Written(words) => ([0, 0, 0, 0, words.len() as u32, 0, 0], words.clone()),
+        }
+    }
+}
+
+pub struct Asked {
+    pub name: String,
+    pub says: Says,
+    operation: u32,
+    numbers: Vec<u32>,
+    sheet: Vec<u32>,
+    list: Vec<u32>,
+    room: usize,
+}
+
+impl Asked {
+    pub fn inquiry(&self) -> Inquiry {
+        Inquiry {
+            operation: self.operation,
+            numbers: self.numbers.clone(),
+            sheet: bytes_of(&self.sheet),
+            list: self.list.clone(),
+            room: self.room,
+        }
+    }
+}
+
+#[derive(Default)]
+pub struct Book {
+    pub asked: Vec<Asked>,
+}
+
+impl Book {
+    fn add(&mut self, name: &str, operation: u32, sheet: &[u32], numbers: &[u32], says: Says) {
+        let name = format!("{name} (question {operation})");
+        let (sheet, numbers) = (sheet.to_vec(), numbers.to_vec());
+        let asked = Asked { name, says, operation, numbers, sheet, list: Vec::new(), room: 0 };
+        self.asked.push(asked);
+    }
+
+    fn with_room(&mut self, name: &str, sheet: &Sheet, numbers: [u32; 5], room: usize, says: Says) {
+        self.add(name, WITNESS, &sheet.words(), &numbers, says);
+        if let Some(asked) = self.asked.last_mut() {
+            asked.room = room;
+        }
+    }
+
+    /// office, person, deed, folio
+    pub fn answer(&mut self, name: &str, sheet: &Sheet, numbers: [u32; 4], value: u32) {
+        self.add(name, ANSWER, &sheet.words(), &numbers, Says::Value(value));
+    }
+
+    /// rule, person, deed, folio
+    pub fn joint(&mut self, name: &str, sheet: &Sheet, numbers: [u32; 4], says: (u32, u32)) {
+        self.add(name, JOINT, &sheet.words(), &numbers, Says::Joint(says.0, says.1));
+    }
+
+    /// office, kind, person, deed, folio. The path is asked for with just
+    /// enough room, with more and with too little, and shown as a list.
+    pub fn witness(&mut self, name: &str, sheet: &Sheet, numbers: [u32; 5], path: &[u32]) {
+        let says = || Says::Written(path.to_vec());
+        let (short, length) = (Says::Refused(25, 0, 0), path.len());
+        self.with_room(&format!("{name}, exactly enough room"), sheet, numbers, length, says());
+        self.with_room(&format!("{name}, one word to spare"), sheet, numbers, length + 1, says());
+        let name_short = format!("{name}, one word short");
+        self.with_room(&name_short, sheet, numbers, length - 1, short.clone());
+        self.with_room(&format!("{name}, no room"), sheet, numbers, 0, short);
+        self.listed(&format!("{name}, as a list"), sheet, numbers, path, true);
+    }
+
+    /// Whatever the room: 26 comes before 25.
+    pub fn no_path(&mut self, name: &str, sheet: &Sheet, numbers: [u32; 5]) {
+        let none = Says::Refused(26, 0, 0);
+        self.with_room(&format!("{name}, with room"), sheet, numbers, 40, none.clone());
+        self.with_room(&format!("{name}, without room"), sheet, numbers, 0, none);
+    }
+
+    pub fn listed(
+        &mut self,
+        name: &str,
+        sheet: &Sheet,
+        numbers: [u32; 5],
+        list: &[u32],
+        yes: bool,
+    ) {
+        self.add(name, LISTED, &sheet.words(), &numbers, Says::Value(u32::from(yes)));
+        if let Some(asked) = self.asked.last_mut() {
+            asked.list = list.to_vec();
+        }
+    }
+
+    /// The place of a refusal that is not the sheet's own is 0, 0.
+    pub fn refused(&mut self, name: &str, sheet: &Sheet, operation: u32, numbers: &[u32], no: u32) {
+        self.add(name, operation, &sheet.words(), numbers, Says::Refused(no, 0, 0));
+    }
+
+    pub fn bad_sheet(&mut self, name: &str, words: &[u32], operation: u32, says: (u32, u32)) {
+        let strange = [9, 8, 7, 6, 5];
+        self.add(name, operation, words, &strange, Says::Refused(says.0, 1, says.1));
+    }
+
+    fn survey(&mut self, name: &str, sheet: &Sheet, asked: &[u32], room: usize, says: Says) {
+        self.add(name, asked[0], &sheet.words(), &asked[1..], says);
+        if let Some(asked) = self.asked.last_mut() {
+            asked.room = room;
+        }
+    }
+
+    /// The question, the office, and what else it names. The list, triple or
+    /// pair is asked for with just enough room, with more and with too little.
+    pub fn found(&mut self, name: &str, sheet: &Sheet, asked: &[u32], words: &[u32]) {
+        let (says, length) = (Says::Written(words.to_vec()), words.len());
+        let name_of = |room: &str| format!("{name}, {room}");
+        self.survey(&name_of("exactly enough room"), sheet, asked, length, says.clone());
+        self.survey(&name_of("one word to spare"), sheet, asked, length + 1, says);
+        if length > 0 {
+            let short = Says::Refused(25, 0, 0);
+            self.survey(&name_of("one word short"), sheet, asked, length - 1, short.clone());
+            self.survey(&name_of("no room"), sheet, asked, 0, short);
+        }
+    }
+
+    /// Whatever the room: 26 comes before 25.
+    pub fn none(&mut self, name: &str, sheet: &Sheet, asked: &[u32]) {
+        let none = Says::Refused(26, 0, 0);
+        self.survey(&format!("{name}, with room"), sheet, asked, 5, none.clone());
+        self.survey(&format!("{name}, without room"), sheet, asked, 0, none);
+    }
+}
