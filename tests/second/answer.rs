@@ -4,10 +4,11 @@
 use std::collections::BTreeSet;
 
 use crate::closure::{has_path, witness};
-use crate::judge::judge_words;
+use crate::judge::{judge_words, Verdict, ACCEPTED};
 use crate::office::{Ask, Office, Side};
 use crate::sheet::words_of;
 use crate::survey::{is_survey, survey, REDUNDANT};
+use crate::take_out::TAKE_OUT;
 use crate::trial::{Expected, Request};
 
 pub const ANSWER: u32 = 1;
@@ -26,6 +27,7 @@ pub struct Refusal {
 pub struct Answer {
     pub value: u32,
     pub count: u32,
+    pub extras: [u32; 2],
     pub written: Vec<u32>,
 }
 
@@ -42,13 +44,29 @@ pub fn insist(holds: bool, number: u32) -> Result<(), Refusal> {
     }
 }
 
+/// The sheet's own faults, with their place.
+pub fn sound(words: &[u32], sheet: u32) -> Result<(), Refusal> {
+    match judge_words(words) {
+        ACCEPTED => Ok(()),
+        Verdict { number, row } => Err(Refusal { number, sheet, row }),
+    }
+}
+
 pub fn is_question(operation: u32) -> bool {
     (ANSWER..=REDUNDANT).contains(&operation)
 }
 
+/// As the document calls it.
+pub fn called(operation: u32) -> String {
+    match is_question(operation) {
+        true => format!("question {operation}"),
+        false => format!("operation {operation}"),
+    }
+}
+
 /// Whether the answer goes into the output, so that its room counts.
 pub fn writes(operation: u32) -> bool {
-    is_question(operation) && operation >= WITNESS && operation != LISTED
+    (WITNESS..=TAKE_OUT).contains(&operation) && operation != LISTED
 }
 
 /// What questions 3 and 4 name after the office: kind, person, deed, folio;
@@ -65,10 +83,7 @@ pub fn answer(
     list: &[u32],
     room: usize,
 ) -> Result<Answer, Refusal> {
-    let verdict = judge_words(words);
-    if verdict.number != 0 {
-        return Err(Refusal { number: verdict.number, sheet: 1, row: verdict.row });
-    }
+    sound(words, 1)?;
     if operation == JOINT {
         return joint_answer(words, numbers[0], &ask_of(operation, numbers));
     }
@@ -115,7 +130,7 @@ fn joint_answer(words: &[u32], rule: u32, ask: &Ask) -> Result<Answer, Refusal> 
     known(&offices.iter().collect::<Vec<_>>(), ask)?;
     let answers: Vec<u32> = offices.iter().map(|office| answer_at(office, ask)).collect();
     let (value, count) = joint(rule, &answers);
-    Ok(Answer { value, count, written: Vec::new() })
+    Ok(Answer { value, count, ..Answer::default() })
 }
 
 /// The answer and the office that decides; the answers are given in the order
@@ -139,8 +154,13 @@ pub fn joint(rule: u32, answers: &[u32]) -> (u32, u32) {
 fn written_witness(office: &Office, side: Side, ask: &Ask, room: usize) -> Result<Answer, Refusal> {
     let path = witness(office, side, ask).ok_or(refusal(26))?;
     let written: Vec<u32> = path.iter().flat_map(|node| [node.0, node.1]).collect();
+    fitting(written, room)
+}
+
+/// What is written, if there is room for it.
+pub fn fitting(written: Vec<u32>, room: usize) -> Result<Answer, Refusal> {
     insist(room >= written.len(), 25)?;
-    Ok(Answer { value: 0, count: written.len() as u32, written })
+    Ok(Answer { count: written.len() as u32, written, ..Answer::default() })
 }
 
 /// Whether the list is some path: each pair of neighbours is looked up in the
@@ -165,19 +185,23 @@ pub fn is_path(office: &Office, side: Side, ask: &Ask, list: &[u32]) -> bool {
         && office.applies.contains(&(deed, ask.folio))
 }
 
-/// The whole reply, word for word: a refusal leaves the fill, and a success
-/// leaves it past its result.
 pub fn expect(request: &Request) -> Expected {
     let (words, list) = (words_of(&request.first), words_of(&request.second));
-    let room = request.out_len;
-    let mut output = vec![request.fill; room];
-    let head = match answer(request.operation, &request.numbers, &words, &list, room) {
-        Ok(answer) => {
-            output[..answer.written.len()].copy_from_slice(&answer.written);
-            [0, 0, 0, answer.value, answer.count]
+    told(request, answer(request.operation, &request.numbers, &words, &list, request.out_len))
+}
+
+/// The whole reply, word for word: a refusal leaves the fill, and a success
+/// leaves it past its result.
+pub fn told(request: &Request, outcome: Result<Answer, Refusal>) -> Expected {
+    let mut output = vec![request.fill; request.out_len];
+    let head = match outcome {
+        Ok(Answer { value, count, extras: [one, other], written }) => {
+            output[..written.len()].copy_from_slice(&written);
+            [0, 0, 0, value, count, one, other]
         }
-        Err(refusal) => [refusal.number, refusal.sheet, refusal.row, 0, 0],
+        Err(refusal) => [refusal.number, refusal.sheet, refusal.row, 0, 0, 0, 0],
     };
-    let [number, sheet, row, value, count] = head;
-    Expected { reply: [number, sheet, row, value, count, 0, 0, room as u32], output }
+    let [number, sheet, row, value, count, one, other] = head;
+    let room = request.out_len as u32;
+    Expected { reply: [number, sheet, row, value, count, one, other, room], output }
 }

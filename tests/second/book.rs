@@ -1,9 +1,12 @@
-//! A book of named questions: what each asks, and literally what the document
-//! says of it.
+//! A book of named questions, lookups, joins and takings out: what each asks, and
+//! literally what the document says of it.
 
-use crate::answer::{ANSWER, JOINT, LISTED, WITNESS};
+use crate::answer::{called, ANSWER, JOINT, LISTED, WITNESS};
 use crate::inquiry::Inquiry;
+use crate::join::JOIN;
+use crate::lookup::{Wanted, LOOKUP};
 use crate::sheet::*;
+use crate::take_out::TAKE_OUT;
 
 #[derive(Clone, Debug)]
 pub enum Says {
@@ -14,6 +17,10 @@ pub enum Says {
     Joint(u32, u32),
     /// a path, a list, a triple or a pair
     Written(Vec<u32>),
+    /// a row, and how many of its words fit
+    Part(Row, usize),
+    /// the joint sheet, and how many nodes and edges are shared
+    Joined(Vec<u32>, [u32; 2]),
 }
 
 impl Says {
@@ -23,6 +30,10 @@ impl Says {
             Says::Refused(number, sheet, row) => ([*number, *sheet, *row, 0, 0, 0, 0], Vec::new()),
             Says::Value(value) => ([0, 0, 0, *value, 0, 0, 0], Vec::new()),
             Says::Joint(value, office) => ([0, 0, 0, *value, *office, 0, 0], Vec::new()),
+            Says::Part(row, fits) => ([0, 0, 0, 0, 4, 0, 0], row[..*fits].to_vec()),
+            Says::Joined(words, [nodes, edges]) => {
+                ([0, 0, 0, words[2], words.len() as u32, *nodes, *edges], words.clone())
+            }
             Says::Written(words) => ([0, 0, 0, 0, words.len() as u32, 0, 0], words.clone()),
         }
     }
@@ -34,7 +45,7 @@ pub struct Asked {
     operation: u32,
     numbers: Vec<u32>,
     sheet: Vec<u32>,
-    list: Vec<u32>,
+    second: Vec<u32>,
     room: usize,
 }
 
@@ -44,7 +55,7 @@ impl Asked {
             operation: self.operation,
             numbers: self.numbers.clone(),
             sheet: bytes_of(&self.sheet),
-            list: self.list.clone(),
+            second: self.second.clone(),
             room: self.room,
         }
     }
@@ -57,9 +68,9 @@ pub struct Book {
 
 impl Book {
     fn add(&mut self, name: &str, operation: u32, sheet: &[u32], numbers: &[u32], says: Says) {
-        let name = format!("{name} (question {operation})");
+        let name = format!("{name} ({})", called(operation));
         let (sheet, numbers) = (sheet.to_vec(), numbers.to_vec());
-        let asked = Asked { name, says, operation, numbers, sheet, list: Vec::new(), room: 0 };
+        let asked = Asked { name, says, operation, numbers, sheet, second: Vec::new(), room: 0 };
         self.asked.push(asked);
     }
 
@@ -110,7 +121,7 @@ impl Book {
     ) {
         self.add(name, LISTED, &sheet.words(), &numbers, Says::Value(u32::from(yes)));
         if let Some(asked) = self.asked.last_mut() {
-            asked.list = list.to_vec();
+            asked.second = list.to_vec();
         }
     }
 
@@ -150,5 +161,84 @@ impl Book {
         let none = Says::Refused(26, 0, 0);
         self.survey(&format!("{name}, with room"), sheet, asked, 5, none.clone());
         self.survey(&format!("{name}, without room"), sheet, asked, 0, none);
+    }
+
+    fn of_two(
+        &mut self,
+        name: &str,
+        asked: &[u32],
+        [first, second]: [&[u32]; 2],
+        room: usize,
+        says: Says,
+    ) {
+        self.add(name, asked[0], first, &asked[1..], says);
+        if let Some(asked) = self.asked.last_mut() {
+            asked.second = second.to_vec();
+            asked.room = room;
+        }
+    }
+
+    /// The row of its own identity, with just enough room, with more and with too
+    /// little.
+    pub fn looked_up(&mut self, name: &str, first: &[u32], second: &[u32], row: Row) {
+        let [sort, number, variant, _] = row;
+        for room in 3..=5 {
+            let name = format!("{name}, room for {room}");
+            let says = Says::Part(row, room.min(4));
+            self.of_two(&name, &[LOOKUP, sort, number, variant], [first, second], room, says);
+        }
+    }
+
+    /// number, sheet, row
+    pub fn lookup_refused(
+        &mut self,
+        name: &str,
+        first: &[u32],
+        second: &[u32],
+        wanted: Wanted,
+        says: (u32, u32, u32),
+    ) {
+        let says = Says::Refused(says.0, says.1, says.2);
+        let [sort, number, variant] = wanted;
+        self.of_two(name, &[LOOKUP, sort, number, variant], [first, second], 5, says);
+    }
+
+    pub fn not_found(&mut self, name: &str, first: &[u32], second: &[u32], wanted: Wanted) {
+        self.lookup_refused(&format!("{name}, not found"), first, second, wanted, (32, 0, 0));
+    }
+
+    /// The joint sheet's words and what is shared, with just enough room, with more
+    /// and with too little.
+    pub fn joined(&mut self, name: &str, sheets: [&Sheet; 2], joint: &Sheet, shared: [u32; 2]) {
+        let [first, second] = sheets.map(Sheet::words);
+        let (words, length) = (joint.words(), joint.words().len());
+        let mut add = |room: usize, how: &str, says: Says| {
+            self.of_two(&format!("{name}, {how}"), &[JOIN], [&first, &second], room, says);
+        };
+        let joined = Says::Joined(words, shared);
+        add(length, "exactly enough room", joined.clone());
+        add(length + 1, "one word to spare", joined);
+        add(length - 1, "one word short", Says::Refused(25, 0, 0));
+        add(0, "no room", Says::Refused(25, 0, 0));
+    }
+
+    /// number, sheet, row; whatever the room
+    pub fn not_joined(&mut self, name: &str, sheets: [&[u32]; 2], says: (u32, u32, u32)) {
+        let says = Says::Refused(says.0, says.1, says.2);
+        self.of_two(&format!("{name}, without room"), &[JOIN], sheets, 0, says.clone());
+        self.of_two(&format!("{name}, with room"), &[JOIN], sheets, 80, says);
+    }
+
+    /// With just enough room, with more and with too little.
+    pub fn taken_out(&mut self, name: &str, sheet: &Sheet, office: u32, says: &Sheet) {
+        self.found(name, sheet, &[TAKE_OUT, office], &says.words());
+    }
+
+    /// number, sheet, row; whatever the room
+    pub fn not_taken_out(&mut self, name: &str, sheet: &[u32], office: u32, says: (u32, u32, u32)) {
+        let says = Says::Refused(says.0, says.1, says.2);
+        let asked = [TAKE_OUT, office];
+        self.of_two(&format!("{name}, without room"), &asked, [sheet, &[]], 0, says.clone());
+        self.of_two(&format!("{name}, with room"), &asked, [sheet, &[]], 80, says);
     }
 }

@@ -1,13 +1,18 @@
 //! What is put to the trial, case by case. A case of a check follows from the
 //! seed and its number alone; the questions come after the checks, 5 to 10 after
-//! 1 to 4, so their numbers follow from how many of those there are.
+//! 1 to 4, then the lookup, then joining and taking out, so their numbers follow
+//! from how many there are before them.
 
 use crate::answer;
 use crate::coverage::{self, Cell, CHECK_BYTES, CHECK_WORDS, UNKNOWN};
 use crate::damage;
 use crate::dress::dress;
 use crate::goals;
+use crate::join::{self, JOIN};
+use crate::joins::Joins;
 use crate::judge::{judge_bytes, judge_words, Verdict};
+use crate::lookup::{self, LOOKUP};
+use crate::lookups::Lookups;
 use crate::make;
 use crate::named::{self, Named};
 use crate::questions::{Made, Questions};
@@ -15,6 +20,7 @@ use crate::random::Random;
 use crate::scramble;
 use crate::sheet::{bytes_of, words_of};
 use crate::surveys::Surveys;
+use crate::take_out::{self, TAKE_OUT};
 use crate::trial::{Expected, Request, MOST_PAYLOAD};
 
 /// What is remembered of a case while its reply is on the way.
@@ -47,8 +53,20 @@ pub struct Case {
     pub expected: Expected,
 }
 
+/// How many random cases there are: of the checks, of questions 1 to 4, of 5 to
+/// 10, of the lookup, and of joining and taking out.
+#[derive(Clone, Copy, Default)]
+pub struct Counts {
+    pub checks: usize,
+    pub questions: usize,
+    pub surveys: usize,
+    pub lookups: usize,
+    pub joins: usize,
+}
+
 /// First the checks: the named cases, then one aimed at each cell of the
-/// coverage table, then the random ones. Then questions 1 to 4, then 5 to 10.
+/// coverage table, then the random ones. Then questions 1 to 4, then 5 to 10,
+/// then the lookup, then joining and taking out.
 pub struct Plan {
     seed: u64,
     named: Vec<Named>,
@@ -56,6 +74,8 @@ pub struct Plan {
     random: usize,
     questions: Questions,
     surveys: Surveys,
+    lookups: Lookups,
+    joins: Joins,
 }
 
 type Maker = fn(&mut Random) -> Vec<u8>;
@@ -80,14 +100,21 @@ fn valid(random: &mut Random) -> Vec<u8> {
 }
 
 impl Plan {
-    pub fn new(seed: u64, random: usize, questions: usize, surveys: usize) -> Plan {
+    pub fn new(seed: u64, counts: Counts) -> Plan {
         let targets = coverage::needed()
             .into_iter()
             .filter(|cell| cell.number != 0 && cell.number != UNKNOWN)
             .collect();
-        let surveys = Surveys::new(seed, surveys);
-        let questions = Questions::new(seed, questions);
-        Plan { seed, named: named::all(), targets, random, questions, surveys }
+        Plan {
+            seed,
+            named: named::all(),
+            targets,
+            random: counts.checks,
+            questions: Questions::new(seed, counts.questions),
+            surveys: Surveys::new(seed, counts.surveys),
+            lookups: Lookups::new(seed, counts.lookups),
+            joins: Joins::new(seed, counts.joins),
+        }
     }
 
     /// How many cases there are of the checks alone.
@@ -100,11 +127,27 @@ impl Plan {
         self.checks() + self.questions.len()
     }
 
-    pub fn len(&self) -> usize {
+    /// Where the cases of the lookup begin.
+    pub fn before_lookups(&self) -> usize {
         self.before_surveys() + self.surveys.len()
     }
 
+    /// Where the cases of joining and taking out begin.
+    pub fn before_joins(&self) -> usize {
+        self.before_lookups() + self.lookups.len()
+    }
+
+    pub fn len(&self) -> usize {
+        self.before_joins() + self.joins.len()
+    }
+
     pub fn case(&self, number: usize) -> Case {
+        if let Some(at) = number.checked_sub(self.before_joins()) {
+            return asked_case(number, self.joins.case(at));
+        }
+        if let Some(at) = number.checked_sub(self.before_lookups()) {
+            return asked_case(number, self.lookups.case(at));
+        }
         if let Some(at) = number.checked_sub(self.before_surveys()) {
             return asked_case(number, self.surveys.case(at));
         }
@@ -196,6 +239,9 @@ pub fn expect(request: &Request) -> Expected {
         return answer::expect(request);
     }
     let verdict = match request.operation {
+        LOOKUP => return lookup::expect(request),
+        JOIN => return join::expect(request),
+        TAKE_OUT => return take_out::expect(request),
         CHECK_WORDS => judge_words(&words_of(&request.first)),
         CHECK_BYTES => judge_bytes(&request.first),
         _ => Verdict { number: UNKNOWN, row: 0 },

@@ -71,7 +71,8 @@ pub fn needed() -> Vec<Cell> {
 /// Where a case stands in the table, from what is expected of it alone.
 pub fn cell(request: &Request, expected: &Expected) -> Cell {
     let (number, row) = (expected.reply[0], expected.reply[2] as usize);
-    let header = words_of(&request.first);
+    let refused = if expected.reply[1] == 2 { &request.second } else { &request.first };
+    let header = words_of(refused);
     let place = match number {
         33 if request.first.len() % 4 != 0 => Place::Uneven,
         33 => Place::TooLong,

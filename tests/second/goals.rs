@@ -1,15 +1,21 @@
-//! What the questions must have been asked and answered, goal by goal. A goal
+//! What the operations must have been asked and answered, goal by goal. A goal
 //! that no case met was not tried, so each is a failed test.
 
 use std::collections::BTreeMap;
 
-use crate::answer::{ask_of, ANSWER, JOINT, LISTED, WITNESS};
+use crate::answer::{ask_of, called, ANSWER, JOINT, LISTED, WITNESS};
 use crate::closure::witness;
+use crate::join::JOIN;
+use crate::join_goals;
+use crate::lookup::LOOKUP;
+use crate::lookup_goals;
 use crate::office::{Office, Side};
 use crate::scope::Scope;
 use crate::sheet::{words_of, MOST_NODES};
-use crate::survey::{is_survey, REDUNDANT};
+use crate::survey::is_survey;
 use crate::survey_goals;
+use crate::take_goals;
+use crate::take_out::TAKE_OUT;
 use crate::trial::{Expected, Request};
 
 fn refusals(operation: u32) -> Vec<u32> {
@@ -67,15 +73,22 @@ pub fn needed() -> Vec<String> {
         goals.extend(LIST_GOALS.map(|goal| format!("question 4: {side:?} list {goal}")));
     }
     goals.extend(survey_goals::needed());
+    goals.extend(of_operation(LOOKUP, lookup_goals::needed()));
+    goals.extend(of_operation(JOIN, join_goals::needed()));
+    goals.extend(of_operation(TAKE_OUT, take_goals::needed()));
     goals
 }
 
+fn of_operation(operation: u32, goals: Vec<String>) -> Vec<String> {
+    goals.into_iter().map(|goal| format!("{}: {goal}", called(operation))).collect()
+}
+
 /// The goals of the operations that a run is about. Each begins with its
-/// question.
+/// question or operation.
 pub fn needed_in(scope: &Scope) -> Vec<String> {
     let of_scope = |goal: &String| {
-        let mut own = (ANSWER..=REDUNDANT).filter(|&operation| scope.has(operation));
-        own.any(|operation| goal.starts_with(&format!("question {operation}: ")))
+        let mut own = (ANSWER..=TAKE_OUT).filter(|&operation| scope.has(operation));
+        own.any(|operation| goal.starts_with(&format!("{}: ", called(operation))))
     };
     needed().into_iter().filter(of_scope).collect()
 }
@@ -93,6 +106,12 @@ pub fn met(request: &Request, expected: &Expected) -> Vec<String> {
     let operation = request.operation;
     if is_survey(operation) {
         return survey_goals::met(request, expected);
+    }
+    match operation {
+        LOOKUP => return of_operation(operation, lookup_goals::met(request, expected)),
+        JOIN => return of_operation(operation, join_goals::met(request, expected)),
+        TAKE_OUT => return of_operation(operation, take_goals::met(request, expected)),
+        _ => {}
     }
     let [number, _, _, value, count, ..] = expected.reply;
     let mut goals = Vec::new();
@@ -193,7 +212,7 @@ impl Goals {
     }
 
     pub fn print(&self, scope: &Scope) {
-        println!("goals of the questions:");
+        println!("goals of the operations:");
         for goal in needed_in(scope) {
             println!("  {goal}: {}", self.counts.get(&goal).unwrap_or(&0));
         }

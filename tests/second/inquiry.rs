@@ -6,8 +6,10 @@ use crate::coverage::{Cell, CHECK_WORDS, ROW_PLACES};
 use crate::damage;
 use crate::desk::Desk;
 use crate::dress::{dress, remainder};
+use crate::join::JOIN;
 use crate::judge::judge_words;
 use crate::lists::{any_list, stroll, Shelf};
+use crate::lookup::LOOKUP;
 use crate::make;
 use crate::office::{Ask, Side};
 use crate::random::Random;
@@ -21,7 +23,8 @@ pub struct Inquiry {
     pub operation: u32,
     pub numbers: Vec<u32>,
     pub sheet: Vec<u8>,
-    pub list: Vec<u32>,
+    /// The words of the second payload: a list, or another sheet.
+    pub second: Vec<u32>,
     pub room: usize,
 }
 
@@ -31,8 +34,8 @@ impl Inquiry {
     pub fn request(self, random: &mut Random) -> Request {
         let mut request = dress(random, self.operation, self.sheet);
         request.numbers[..self.numbers.len()].copy_from_slice(&self.numbers);
-        if self.operation == LISTED {
-            request.second = bytes_of(&self.list);
+        if matches!(self.operation, LISTED | LOOKUP | JOIN) {
+            request.second = bytes_of(&self.second);
             remainder(random, &mut request.second);
         }
         if writes(self.operation) {
@@ -54,15 +57,7 @@ const MANNERS: [(&str, usize); 7] = [
 ];
 
 pub fn any(random: &mut Random, operation: u32) -> (&'static str, Inquiry) {
-    let mut chance = random.below(100);
-    let mut manner = MANNERS[0].0;
-    for (name, share) in MANNERS {
-        if chance < share {
-            manner = name;
-            break;
-        }
-        chance -= share;
-    }
+    let manner = random.manner(&MANNERS);
     let bytes = match manner {
         "question: damaged sheet" => damaged(random),
         "question: spoiled sheet" => spoiled(random),
@@ -127,10 +122,10 @@ pub fn inquire(
     let ask = desk.ask(random, manner);
     let first = first_number(random, operation, manner, &words, office);
     let shelf = Shelf { here: &desk.here, elsewhere: &desk.elsewhere, side: desk.side, ask };
-    let list = if operation == LISTED { any_list(random, &shelf) } else { Vec::new() };
+    let second = if operation == LISTED { any_list(random, &shelf) } else { Vec::new() };
     let room = if operation == WITNESS { desk.room(random, &ask) } else { 0 };
     let numbers = spread(operation, first, kind, &ask);
-    Inquiry { operation, numbers, sheet: bytes, list, room }
+    Inquiry { operation, numbers, sheet: bytes, second, room }
 }
 
 /// Any office and kind; where a path is to be asked for, some that have one,
@@ -152,8 +147,8 @@ fn fitting_desk(random: &mut Random, manner: &str, words: &[u32]) -> (u32, u32, 
 pub fn inquire_in_vain(random: &mut Random, operation: u32, sheet: Vec<u8>) -> Inquiry {
     let mut numbers = vec![random.below(4) as u32];
     numbers.extend((0..4).map(|_| random.odd_word()));
-    let list = (0..random.below(12)).map(|_| random.odd_word()).collect();
-    Inquiry { operation, numbers, sheet, list, room: random.below(12) }
+    let second = (0..random.below(12)).map(|_| random.odd_word()).collect();
+    Inquiry { operation, numbers, sheet, second, room: random.below(12) }
 }
 
 pub fn spread(operation: u32, first: u32, kind: u32, ask: &Ask) -> Vec<u32> {

@@ -3,7 +3,7 @@
 
 use crate::sheet::words_of;
 
-#[derive(Clone, Copy, Debug, PartialEq)]
+#[derive(Clone, Copy, Debug, PartialEq, Eq)]
 pub struct Verdict {
     pub number: u32,
     pub row: u32,

@@ -32,10 +32,11 @@ pub fn on_longest(random: &mut Random, turn: usize) -> (String, Inquiry) {
     };
     let words = sheet.words();
     let room = 2 * (line.len() + 3) - random.pick(&[0, 0, 0, 1, 2]);
-    let list = if operation == LISTED { long_list(random, &words, side, &ask) } else { Vec::new() };
+    let second =
+        if operation == LISTED { long_list(random, &words, side, &ask) } else { Vec::new() };
     let numbers = spread(operation, first, kind, &ask);
     let name = format!("{form:?} of {side:?}s, asked for {asked_side:?}s");
-    (name, Inquiry { operation, numbers, sheet: bytes_of(&words), list, room })
+    (name, Inquiry { operation, numbers, sheet: bytes_of(&words), second, room })
 }
 
 /// The path itself, or with one word changed, a category twice, or cut.
@@ -61,9 +62,9 @@ pub fn with_very_long_list(random: &mut Random, turn: usize) -> Inquiry {
         0 | 1 => largest_ring(random, side),
         _ => small_ring(random, side),
     };
-    let list = lists::very_long(random, &path);
+    let second = lists::very_long(random, &path);
     let numbers = spread(LISTED, 1, u32::from(side == Side::Ban), &path_ask(&path));
-    Inquiry { operation: LISTED, numbers, sheet: bytes_of(&words), list, room: 0 }
+    Inquiry { operation: LISTED, numbers, sheet: bytes_of(&words), second, room: 0 }
 }
 
 fn largest_ring(random: &mut Random, side: Side) -> (Vec<u32>, lists::Path) {

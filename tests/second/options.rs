@@ -1,5 +1,6 @@
 //! The command line.
 
+use crate::case::Counts;
 use crate::scope::Scope;
 
 pub const USAGE: &str = "usage:
@@ -8,13 +9,13 @@ pub const USAGE: &str = "usage:
   second --benchmark [--only OPERATIONS] -- COMMAND ARGS..
   second --self-test";
 
+const COUNTS: Counts =
+    Counts { checks: 24_000, questions: 24_000, surveys: 20_000, lookups: 2_000, joins: 10_000 };
+
 pub struct Options {
     pub seed: u64,
-    /// Random cases of the checks.
-    pub cases: usize,
-    /// Random cases of questions 1 to 4 and of 5 to 10; --questions sets both.
-    pub questions: usize,
-    pub surveys: usize,
+    /// --cases sets how many there are of the checks, and --questions all others.
+    pub counts: Counts,
     /// The operations that are tried, such as 5 or 5-10 or 0,1-4,20.
     pub only: Scope,
     /// One case alone, by its number.
@@ -31,9 +32,7 @@ impl Options {
     pub fn read(mut words: impl Iterator<Item = String>) -> Result<Options, String> {
         let mut options = Options {
             seed: 20_240_611,
-            cases: 24_000,
-            questions: 24_000,
-            surveys: 20_000,
+            counts: COUNTS,
             only: Scope::default(),
             case: None,
             patience: 300,
@@ -44,10 +43,12 @@ impl Options {
         while let Some(word) = words.next() {
             match word.as_str() {
                 "--seed" => options.seed = number(&word, words.next())?,
-                "--cases" => options.cases = number(&word, words.next())?,
+                "--cases" => options.counts.checks = number(&word, words.next())?,
                 "--questions" => {
-                    options.questions = number(&word, words.next())?;
-                    options.surveys = options.questions;
+                    let each = number(&word, words.next())?;
+                    let checks = options.counts.checks;
+                    let [questions, surveys, lookups, joins] = [each; 4];
+                    options.counts = Counts { checks, questions, surveys, lookups, joins };
                 }
                 "--only" => operations(&mut options.only, words.next())?,
                 "--case" => options.case = Some(number(&word, words.next())?),

@@ -44,6 +44,18 @@ impl Random {
         from[self.below(from.len())]
     }
 
+    /// One of these by their shares out of 100.
+    pub fn manner(&mut self, manners: &[(&'static str, usize)]) -> &'static str {
+        let mut chance = self.below(100);
+        for &(name, share) in manners {
+            if chance < share {
+                return name;
+            }
+            chance -= share;
+        }
+        manners[0].0
+    }
+
     pub fn shuffle<T>(&mut self, items: &mut [T]) {
         for end in (1..items.len()).rev() {
             let other = self.below(end + 1);

@@ -123,7 +123,7 @@ impl Report {
             println!("  {operation}: {count}");
         }
         println!("cases by expected outcome:");
-        for number in (0..=17).chain(20..=27).chain([31, 33, UNKNOWN]) {
+        for number in (0..=17).chain(20..=33).chain([UNKNOWN]) {
             let name = if number == UNKNOWN { "unknown".to_string() } else { number.to_string() };
             println!("  {name}: {}", self.outcomes.get(&number).unwrap_or(&0));
         }
@@ -149,7 +149,7 @@ fn print_request(case: &Case, most_rows: usize) {
     println!("    payloads of {} and {} bytes", request.first.len(), request.second.len());
     println!("    output of {} words filled with {}", request.out_len, request.fill);
     println!("    expected reply {:?}, then {} words", expected.reply, expected.output.len());
-    print_words("list", &words_of(&request.second), most_rows);
+    print_words("second payload", &words_of(&request.second), most_rows);
     print_words("expected output", &expected.output, most_rows);
     let words = words_of(&request.first);
     let (header, rows) = words.split_at(words.len().min(HEADER));

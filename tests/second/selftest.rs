@@ -1,7 +1,7 @@
 //! Tests of this program by itself: a judge or a comparer that says yes to
 //! everything would make every run pass.
 
-use crate::case::Plan;
+use crate::case::{Counts, Plan};
 use crate::coverage::{needed, Cell, Coverage, Place};
 use crate::judge::{judge_bytes, judge_words, Verdict};
 use crate::make;
@@ -9,6 +9,8 @@ use crate::named;
 use crate::random::Random;
 use crate::selftest_benchmark;
 use crate::selftest_counted;
+use crate::selftest_joins;
+use crate::selftest_lookups;
 use crate::selftest_misreadings;
 use crate::selftest_paths;
 use crate::selftest_questions;
@@ -36,6 +38,8 @@ pub fn run() -> Tally {
     selftest_surveys::run(&mut tally);
     selftest_counted::run(&mut tally);
     selftest_misreadings::run(&mut tally);
+    selftest_lookups::run(&mut tally);
+    selftest_joins::run(&mut tally);
     selftest_benchmark::run(&mut tally);
     tally
 }
@@ -94,7 +98,7 @@ fn byte_lengths(tally: &mut Tally) {
 
 fn named_cases(tally: &mut Tally) {
     let named = named::all();
-    let plan = Plan::new(0, 0, 0, 0);
+    let plan = Plan::new(0, Counts::default());
     for (number, case) in named.iter().enumerate() {
         let own_fault = plan.case(number).about.own_fault;
         tally.test(&format!("judge of the named case: {}", case.name), own_fault.is_none());
@@ -212,8 +216,8 @@ fn tallies(tally: &mut Tally) {
 }
 
 fn repeatable_cases(tally: &mut Tally) {
-    let (plan, again) = (Plan::new(5, 200, 0, 0), Plan::new(5, 9000, 0, 0));
-    let other = Plan::new(6, 200, 0, 0);
+    let of = |seed, checks| Plan::new(seed, Counts { checks, ..Counts::default() });
+    let (plan, again, other) = (of(5, 200), of(5, 9000), of(6, 200));
     let bytes = |plan: &Plan, number| plan.case(number).request.bytes();
     let numbers = plan.checks() - 200..plan.checks();
     let same = numbers.clone().rev().all(|number| bytes(&plan, number) == bytes(&again, number));

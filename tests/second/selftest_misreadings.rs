@@ -2,7 +2,7 @@
 //! from the right one.
 
 use crate::answer::Answer;
-use crate::case::{Case, Plan};
+use crate::case::{Case, Counts, Plan};
 use crate::misreadings::{self, Asking, Misreading, Outcome};
 use crate::sheet::words_of;
 use crate::survey::survey;
@@ -14,9 +14,9 @@ const CASES: usize = 6_000;
 const ENOUGH: usize = 10;
 
 pub fn run(tally: &mut Tally) {
-    let plan = Plan::new(1, 0, 0, CASES);
-    let first = plan.len() - CASES;
-    let cases: Vec<Case> = (first..plan.len()).map(|number| plan.case(number)).collect();
+    let plan = Plan::new(1, Counts { surveys: CASES, ..Counts::default() });
+    let end = plan.before_lookups();
+    let cases: Vec<Case> = (end - CASES..end).map(|number| plan.case(number)).collect();
     for misreading in misreadings::all() {
         for &operation in misreading.operations {
             let name = format!("told apart in question {operation}: {}", misreading.name);

@@ -3,7 +3,7 @@
 use std::collections::BTreeSet;
 
 use crate::answer::{answer, expect, is_path, joint, Answer, Refusal, ANSWER};
-use crate::case::Plan;
+use crate::case::{Counts, Plan};
 use crate::closure::{has_path, witness};
 use crate::goals::{needed, Goals};
 use crate::judge::judge_words;
@@ -12,6 +12,7 @@ use crate::named_questions;
 use crate::named_refusals::RULES;
 use crate::office::{Ask, Office, Side};
 use crate::random::Random;
+use crate::selftest_named;
 use crate::sheet::*;
 use crate::sister;
 use crate::tally::Tally;
@@ -23,7 +24,7 @@ pub fn run(tally: &mut Tally) {
     list_lengths(tally);
     rules(tally);
     outputs(tally);
-    named_cases(tally);
+    selftest_named::run(tally, "questions", &named_questions::all(), Plan::checks);
     longest_sheets(tally);
     goal_misses(tally);
     repeatable_questions(tally);
@@ -31,7 +32,7 @@ pub fn run(tally: &mut Tally) {
 
 /// The joint of A and B as the document has it: 70 words.
 #[rustfmt::skip]
-const JOINT_WORDS: [u32; 70] = [
+pub const JOINT_WORDS: [u32; 70] = [
     1,2,8,8,6,38,
     1,11,0,3, 1,12,0,1, 2,21,0,3, 2,22,0,1, 3,31,1,1, 3,31,2,3, 4,41,0,1, 4,42,0,3,
     1,0,2,3, 1,1,3,1, 2,2,3,1, 3,2,5,2, 3,3,4,1, 4,2,5,1, 5,4,6,1, 5,5,7,3,
@@ -54,15 +55,15 @@ fn joint_words(tally: &mut Tally) {
 }
 
 fn value(value: u32) -> Result<Answer, Refusal> {
-    Ok(Answer { value, count: 0, written: Vec::new() })
+    Ok(Answer { value, ..Answer::default() })
 }
 
 fn decided(value: u32, office: u32) -> Result<Answer, Refusal> {
-    Ok(Answer { value, count: office, written: Vec::new() })
+    Ok(Answer { value, count: office, ..Answer::default() })
 }
 
 fn path(written: &[u32]) -> Result<Answer, Refusal> {
-    Ok(Answer { value: 0, count: written.len() as u32, written: written.to_vec() })
+    Ok(Answer { count: written.len() as u32, written: written.to_vec(), ..Answer::default() })
 }
 
 fn refused(number: u32) -> Result<Answer, Refusal> {
@@ -200,17 +201,6 @@ fn outputs(tally: &mut Tally) {
     tally.test("a bad sheet's reply", expect(&bad).reply == [5, 1, 0, 0, 0, 0, 0, 8]);
 }
 
-fn named_cases(tally: &mut Tally) {
-    let plan = Plan::new(0, 0, 0, 0);
-    let named = named_questions::all();
-    for (at, asked) in named.iter().enumerate() {
-        let own_fault = plan.case(plan.checks() + at).about.own_fault;
-        tally.test(&format!("answer to the named case: {}", asked.name), own_fault.is_none());
-    }
-    let names: BTreeSet<&str> = named.iter().map(|asked| asked.name.as_str()).collect();
-    tally.test("no two named questions share a name", names.len() == named.len());
-}
-
 fn longest_sheets(tally: &mut Tally) {
     for form in FORMS {
         for side in [Side::Grant, Side::Ban] {
@@ -235,7 +225,7 @@ fn goal_misses(tally: &mut Tally) {
     tally.test("no goal met misses them all", Goals::default().misses() == needed());
     let distinct: BTreeSet<String> = needed().into_iter().collect();
     tally.test("no two goals are the same", distinct.len() == needed().len());
-    tally.test("354 goals are needed", needed().len() == 354);
+    tally.test("582 goals are needed", needed().len() == 582);
     for left_out in needed() {
         let mut goals = Goals::default();
         let met = needed().into_iter().filter(|goal| *goal != left_out);
@@ -246,8 +236,8 @@ fn goal_misses(tally: &mut Tally) {
 }
 
 fn repeatable_questions(tally: &mut Tally) {
-    let (plan, again) = (Plan::new(5, 0, 200, 0), Plan::new(5, 0, 9000, 0));
-    let other = Plan::new(6, 0, 200, 0);
+    let of = |seed, questions| Plan::new(seed, Counts { questions, ..Counts::default() });
+    let (plan, again, other) = (of(5, 200), of(5, 9000), of(6, 200));
     let bytes = |plan: &Plan, number| plan.case(number).request.bytes();
     let end = plan.before_surveys();
     let numbers = end - 200..end;

@@ -4,12 +4,13 @@
 use std::collections::BTreeSet;
 
 use crate::answer::{answer, expect, Answer, Refusal};
-use crate::case::Plan;
+use crate::case::{Counts, Plan};
 use crate::full_sheets::{full, Crew, SHAPES};
 use crate::judge::judge_words;
 use crate::named_surveys;
 use crate::random::Random;
 use crate::scope::Scope;
+use crate::selftest_named;
 use crate::selftest_questions::HAND_WORDS;
 use crate::sheet::*;
 use crate::survey::{IN_CATEGORY, REDUNDANT};
@@ -20,14 +21,14 @@ use crate::trial::Request;
 pub fn run(tally: &mut Tally) {
     by_hand(tally);
     outputs(tally);
-    named_cases(tally);
+    selftest_named::run(tally, "surveys", &named_surveys::all(), Plan::before_surveys);
     full_sheets(tally);
     repeatable_surveys(tally);
     scopes(tally);
 }
 
 fn list(written: &[u32]) -> Result<Answer, Refusal> {
-    Ok(Answer { value: 0, count: written.len() as u32, written: written.to_vec() })
+    Ok(Answer { count: written.len() as u32, written: written.to_vec(), ..Answer::default() })
 }
 
 fn refused(number: u32) -> Result<Answer, Refusal> {
@@ -145,17 +146,6 @@ fn outputs(tally: &mut Tally) {
     tally.test("a list too long, the reply", short.reply == [25, 0, 0, 0, 0, 0, 0, 1]);
 }
 
-fn named_cases(tally: &mut Tally) {
-    let plan = Plan::new(0, 0, 0, 0);
-    let named = named_surveys::all();
-    for (at, asked) in named.iter().enumerate() {
-        let own_fault = plan.case(plan.before_surveys() + at).about.own_fault;
-        tally.test(&format!("answer to the named case: {}", asked.name), own_fault.is_none());
-    }
-    let names: BTreeSet<&str> = named.iter().map(|asked| asked.name.as_str()).collect();
-    tally.test("no two named surveys share a name", names.len() == named.len());
-}
-
 fn full_sheets(tally: &mut Tally) {
     for shape in SHAPES {
         let crew = Crew { persons: 3, deeds: 4, folios: 3 };
@@ -176,16 +166,16 @@ fn full_sheets(tally: &mut Tally) {
 }
 
 fn repeatable_surveys(tally: &mut Tally) {
-    let (plan, again) = (Plan::new(5, 0, 0, 200), Plan::new(5, 0, 0, 900));
-    let other = Plan::new(6, 0, 0, 200);
+    let of = |seed, surveys| Plan::new(seed, Counts { surveys, ..Counts::default() });
+    let (plan, again, other) = (of(5, 200), of(5, 900), of(6, 200));
     let bytes = |plan: &Plan, at: usize| plan.case(plan.before_surveys() + at).request.bytes();
-    let end = plan.len() - plan.before_surveys();
+    let end = plan.before_lookups() - plan.before_surveys();
     let numbers = end - 200..end;
     let same = numbers.clone().rev().all(|at| bytes(&plan, at) == bytes(&again, at));
     tally.test("a survey follows from seed and number", same);
     let differ = numbers.filter(|&at| bytes(&plan, at) != bytes(&other, at)).count();
     tally.test("another seed makes other surveys", differ == 200);
-    let asked = |back: usize| plan.case(plan.len() - back).about.operation;
+    let asked = |back: usize| plan.case(plan.before_lookups() - back).about.operation;
     let all: BTreeSet<u32> = (1..=6).map(asked).collect();
     tally.test("six surveys in turn", all == (IN_CATEGORY..=REDUNDANT).collect());
 }

@@ -3,7 +3,7 @@
 
 use std::collections::BTreeSet;
 
-use crate::answer::{insist, refusal, Answer, Refusal};
+use crate::answer::{fitting, insist, refusal, Answer, Refusal};
 use crate::office::{Office, Side};
 use crate::reach::Reach;
 use crate::redundant::redundant_rows;
@@ -37,9 +37,7 @@ pub fn survey(
 
 /// 26 before 25.
 pub fn fitted(found: Option<Vec<u32>>, room: usize) -> Result<Answer, Refusal> {
-    let written = found.ok_or(refusal(26))?;
-    insist(room >= written.len(), 25)?;
-    Ok(Answer { value: 0, count: written.len() as u32, written })
+    fitting(found.ok_or(refusal(26))?, room)
 }
 
 /// Of questions 5 to 9; nothing where there is no triple or pair.

@@ -29,15 +29,7 @@ const MANNERS: [(&str, usize); 6] = [
 ];
 
 pub fn any(random: &mut Random, operation: u32) -> (&'static str, Inquiry) {
-    let mut chance = random.below(100);
-    let mut manner = MANNERS[0].0;
-    for (name, share) in MANNERS {
-        if chance < share {
-            manner = name;
-            break;
-        }
-        chance -= share;
-    }
+    let manner = random.manner(&MANNERS);
     // Where something is to be found, a few sheets are tried.
     let mut tries = if manner == MANNERS[0].0 { 4 } else { 1 };
     loop {
@@ -116,7 +108,7 @@ pub fn inquire(random: &mut Random, operation: u32, manner: &str, mut bytes: Vec
     let asked_at = if manner == "survey: bad office" { random.pick(&bad) } else { office };
     let numbers: Vec<u32> = [asked_at].into_iter().chain(asked).collect();
     let room = room(random, operation, &numbers, &words);
-    Inquiry { operation, numbers, sheet: bytes, list: Vec::new(), room }
+    Inquiry { operation, numbers, sheet: bytes, second: Vec::new(), room }
 }
 
 /// About the length of what would be written, whatever it is.

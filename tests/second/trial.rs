@@ -47,7 +47,7 @@ impl Request {
     }
 }
 
-#[derive(Clone, Debug)]
+#[derive(Clone, Debug, PartialEq)]
 pub struct Expected {
     pub reply: [u32; 8],
     pub output: Vec<u32>,

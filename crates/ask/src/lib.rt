@@ -548,18 +548,6 @@ pub fn witness(sheet: &[u32], q: Question, out: &mut [u32]) -> Answer
     witness_checked(sheet, &sheet[from..], h, q, out)
 }
 
-// A node row of an identity, of no office.
-fn named(class: u32, number: u32, variant: u32) -> Node
-    ensures { λ r. ⌜ nodeKey r ≡ identity class number variant ⌝ }
-{
-    Node {
-        class: class,
-        number: number,
-        variant: variant,
-        offices: 0,
-    }
-}
-
 // Whether an edge row has the kind and the mark and runs from one identity to the other.
 fn is_row_of(
     sheet: &[u32],
@@ -611,8 +599,8 @@ fn is_member(sheet: &[u32], edges: &[u32], h: Header, k: u32, mark: u32, p: u32,
     requires { ⌜ AtOffice (now sheet) (now edges) h k mark ⌝ }
     ensures { λ r. ⌜ r ≡ member (seenAt (now (sheet .entry)) (suc k)) p c ⌝ }
 {
-    let a = named(1, p, 0);
-    let b = named(2, c, 0);
+    let a = sheet::named(1, p, 0);
+    let b = sheet::named(2, c, 0);
     is_related(sheet, edges, h, k, mark, 1, a, b)
 }
 
@@ -630,8 +618,8 @@ fn is_step(
     requires { ⌜ AtOffice (now sheet) (now edges) h k mark ⌝ }
     ensures { λ r. ⌜ r ≡ step (seenAt (now (sheet .entry)) (suc k)) (sideOf kind) c d ⌝ }
 {
-    let a = named(2, c, 0);
-    let b = named(2, d, 0);
+    let a = sheet::named(2, c, 0);
+    let b = sheet::named(2, d, 0);
     if kind == 0 {
         return is_related(sheet, edges, h, k, mark, 2, a, b);
     }
@@ -653,9 +641,9 @@ fn is_carried(
     ensures { λ r. ⌜ r ≡ carries (seenAt (now (sheet .entry)) (suc k)) (sideOf (q .kind)) (q .deed) v (q .folio) c ⌝ }
 {
     let w = walk_for(mark, q.kind, q.deed);
-    let a = named(2, c, 0);
-    let b = named(3, q.deed, v);
-    let t = named(4, q.folio, 0);
+    let a = sheet::named(2, c, 0);
+    let b = sheet::named(3, q.deed, v);
+    let t = sheet::named(4, q.folio, 0);
     is_related(sheet, edges, h, k, mark, w.right, a, b)
         & is_related(sheet, edges, h, k, mark, 5, b, t)
 }

@@ -2,7 +2,7 @@
 ghost use mathlib.Core.Path.{_≡_};
 ghost use Prim.Native.Nat.{ℕ, _+_, _*_, _-_, _<_, _≤_};
 ghost use lib.ListN.{length};
-ghost use Rattle.tables.specs.Key.{sameKey, belowKey};
+ghost use Rattle.tables.specs.Key.{identity, sameKey, belowKey};
 ghost use Rattle.sheet.specs.Limits.{headerWords, nodeWords, edgesFrom};
 ghost use Rattle.sheet.specs.Rows.{fourAt, headerOf, nodeAt, edgeAt, nodeKey, edgeKey, nodeKeyAt};
 ghost use Rattle.sheet.specs.Accepted.{EdgeRoom, NodesFormed};
@@ -131,6 +131,18 @@ pub fn before(i: usize) -> usize
     ensures { λ r. ⌜ r ≡ i - 1 ⌝ }
 {
     if i == 0 { 0 } else { i - 1 }
+}
+
+// A node row of an identity, of no office.
+pub fn named(class: u32, number: u32, variant: u32) -> Node
+    ensures { λ r. ⌜ nodeKey r ≡ identity class number variant ⌝ }
+{
+    Node {
+        class: class,
+        number: number,
+        variant: variant,
+        offices: 0,
+    }
 }
 
 // Whether two node rows have the same identity.

@@ -2,6 +2,7 @@
 // The trial program's page in docs/TRIAL.md has the form of both.
 use ask::Answer;
 use ask::Question;
+use join::Joined;
 use libc::STDIN_FILENO;
 use libc::STDOUT_FILENO;
 use sheet::Refusal;
@@ -155,6 +156,85 @@ fn list_payload(q: Request, bytes: &[u8], out: &mut [u32]) -> Reply
     replied(list_words(q, &words[0..n], out))
 }
 
+// Copies as many words of a part as the output has room for.
+fn copy(part: &[u32], out: &mut [u32]) {
+    let n = part.len();
+    let mut i: usize = 0;
+    while i < n {
+        if out.len() <= i {
+            return;
+        }
+        out[i] = part[i];
+        i += 1;
+    }
+}
+
+// Operation 11 on words: the part as it stands, and the number and place of the other entry.
+fn look_words<'a>(q: Request, first: &'a [u32], second: &'a [u32], out: &mut [u32]) -> Reply {
+    let part = lookup::look_up(first, second, q.a1, q.a2, q.a3);
+    let r = lookup::look_up_refusal(first, second, q.a1, q.a2, q.a3);
+    let count = part.len() as u32;
+    copy(part, out);
+    Reply {
+        number: r.number,
+        sheet: r.sheet,
+        row: r.row,
+        value: 0,
+        count: count,
+        extra: 0,
+        further: 0,
+    }
+}
+
+// Operation 11 on the words of its payloads.
+fn look_payloads(q: Request, first: &[u8], second: &[u8], out: &mut [u32]) -> Reply
+    requires { ⌜ (length (now first) ≤ 80000) × (length (now second) ≤ 80000) ⌝ }
+{
+    let mut words = [0u32; MAX_OUTPUT];
+    files::decode(first, &mut words);
+    let n = first.len() / 4;
+    let mut others = [0u32; MAX_OUTPUT];
+    files::decode(second, &mut others);
+    let m = second.len() / 4;
+    look_words(q, &words[0..n], &others[0..m], out)
+}
+
+// Operation 13 on the words of its payload.
+fn take_payload(q: Request, bytes: &[u8], out: &mut [u32]) -> Reply
+    requires { ⌜ length (now bytes) ≤ 80000 ⌝ }
+{
+    let mut words = [0u32; MAX_OUTPUT];
+    files::decode(bytes, &mut words);
+    let n = bytes.len() / 4;
+    replied(takeout::take_out(&words[0..n], q.a1, out))
+}
+
+// The reply of a join.
+fn joined(j: Joined) -> Reply {
+    Reply {
+        number: j.number,
+        sheet: j.sheet,
+        row: j.row,
+        value: j.nodes,
+        count: j.words,
+        extra: j.sharednodes,
+        further: j.sharededges,
+    }
+}
+
+// Operation 12 on the words of its payloads.
+fn join_payloads(first: &[u8], second: &[u8], out: &mut [u32]) -> Reply
+    requires { ⌜ (length (now first) ≤ 80000) × (length (now second) ≤ 80000) ⌝ }
+{
+    let mut words = [0u32; MAX_OUTPUT];
+    files::decode(first, &mut words);
+    let n = first.len() / 4;
+    let mut others = [0u32; MAX_OUTPUT];
+    files::decode(second, &mut others);
+    let m = second.len() / 4;
+    joined(join::join(&words[0..n], &others[0..m], out))
+}
+
 // The words of a payload, judged as a sheet.
 fn check_payload(bytes: &[u8]) -> Refusal
     requires { ⌜ length (now bytes) ≤ 80000 ⌝ }
@@ -176,6 +256,15 @@ fn answer(q: Request, first: &[u8], second: &[u8], out: &mut [u32]) -> Reply
     }
     if (5 <= operation) & (operation <= 10) {
         return list_payload(q, first, out);
+    }
+    if operation == 13 {
+        return take_payload(q, first, out);
+    }
+    if operation == 12 {
+        return join_payloads(first, second, out);
+    }
+    if operation == 11 {
+        return look_payloads(q, first, second, out);
     }
     match operation {
         0 => told(check_payload(first)),

@@ -1,0 +1,164 @@
+-- What a search for an identity tells of a sheet: that it has the identity, where its row stands, and what a lookup gives.
+-- Assumes nothing.
+use Prim.Native.Nat.{ℕ, zero, suc, _+_, _*_, _<_, _≤_}
+use native.Mathlib.Omega.{arith}
+use native.Mathlib.Decide.{decLt}
+use mathlib.Core.Path.{_≡_, refl, sym, ap, subst, _∙_}
+use mathlib.Core.Bool.{Bool, true, false, not, _||_, true≢false, false≢true}
+use mathlib.Core.List.{List, []}
+use lib.ListN.{length, take, drop, length-take}
+use Rattle.tables.specs.Key.{Key, sameKey}
+use Rattle.tables.proofs.Keys.{same-eq, eq-same, ne-same, one-row}
+use Rattle.sheet.specs.declared.Refusal.{Refusal}
+use Rattle.sheet.specs.declared.Header.{Header}
+use Rattle.sheet.specs.declared.Found.the-variants.{At, Nowhere}
+use Rattle.sheet.specs.declared.Found.{Found}
+use Rattle.sheet.specs.Limits.{nodeWords, edgesFrom}
+use Rattle.sheet.specs.Refusals.{_when_otherwise_, none, refuse, _then_}
+use Rattle.sheet.specs.Rows.{headerOf, nodeKeyAt}
+use Rattle.sheet.specs.Verdict.{verdict}
+use Rattle.sheet.specs.Accepted.{Accepted}
+use Rattle.sheet.specs.Found.{FoundIs, stands, missing}
+use Rattle.sheet.proofs.Refusing.{then-some-is, then-none-is, then-good}
+use Rattle.sheet.proofs.Accepting.{accepted}
+use Rattle.lookup.specs.Looked.{anyRow, has, neither, lookFault, rowWords, LooksUp, refused, in-first, in-second, StandsAt, at-row, nowhere}
+
+-- ---- where a row stands
+
+pub found-row : (s : List ℕ) (h : Header) (k : Key) (x : Found) (i : ℕ) → h ≡ headerOf s → FoundIs (nodeKeyAt s) (h .nodes) k x → x ≡ At i → (i < h .nodes) × StandsAt s k (edgesFrom i)
+found-row s h k x i e f q = go (subst (FoundIs (nodeKeyAt s) (h .nodes) k) q f)
+  where
+    go : FoundIs (nodeKeyAt s) (h .nodes) k (At i) → (i < h .nodes) × StandsAt s k (edgesFrom i)
+    go (stands j l z) = (l, at-row i (subst (λ (y : Header). i < y .nodes) e l) z)
+
+pub found-nowhere : (s : List ℕ) (h : Header) (k : Key) (x : Found) → h ≡ headerOf s → FoundIs (nodeKeyAt s) (h .nodes) k x → x ≡ Nowhere → StandsAt s k (length s)
+found-nowhere s h k x e f q = go (subst (FoundIs (nodeKeyAt s) (h .nodes) k) q f)
+  where
+    go : FoundIs (nodeKeyAt s) (h .nodes) k Nowhere → StandsAt s k (length s)
+    go (missing n) = nowhere (λ i l z. n i (subst (λ (y : Header). i < y .nodes) (sym e) l) z)
+
+-- ---- whether a sheet has the identity
+
+any-at : (f : ℕ → Bool) (n i : ℕ) → i < n → f i ≡ true → anyRow f n ≡ true
+unfolding anyRow
+any-at f zero i l e = absurd (omega (arith, l))
+any-at f (suc n) i l e = go (f n) refl (decLt i n) (λ m. any-at f n i m e)
+  where
+    go : (b : Bool) → f n ≡ b → Dec (i < n) → (i < n → anyRow f n ≡ true) → (b || anyRow f n) ≡ true
+    go true q d more = refl
+    go false q (yes m) more = more m
+    go false q (no m) more = let z : i ≡ n = omega arith in absurd (true≢false (sym e ∙ ap f z ∙ q))
+
+any-none : (f : ℕ → Bool) (n : ℕ) → ((i : ℕ) → i < n → f i ≡ false) → anyRow f n ≡ false
+unfolding anyRow
+any-none f zero h = refl
+any-none f (suc n) h = rw (h n (omega arith)) (any-none f n (λ i l. h i (omega arith)))
+
+-- a row that stands: its words are there
+pub record Row (s : List ℕ) (k : Key) (r : ℕ) : Type 0 where
+  pub row : ℕ
+  pub inside : row < headerOf s .nodes
+  pub names : nodeKeyAt s row ≡ k
+  pub place : r ≡ edgesFrom row
+  pub room : r + 4 ≤ length s
+  pub low : r ≤ 20000
+
+pub stands-row : (s : List ℕ) (k : Key) (r : ℕ) → Accepted s → StandsAt s k r → r < length s → Row s k r
+stands-row s k r acc (at-row i l e) h = record { row = i; inside = l; names = e; place = refl; room = omega (arith, l, acc .nodes .header .whole); low = omega (arith, l, acc .nodes .header .nodes) }
+stands-row s k r acc (nowhere n) h = absurd (omega arith)
+
+pub has-row : (s : List ℕ) (k : Key) (i : ℕ) → i < headerOf s .nodes → nodeKeyAt s i ≡ k → has s k ≡ true
+unfolding has
+has-row s k i l e = any-at _ (headerOf s .nodes) i l (eq-same (nodeKeyAt s i) k e)
+
+pub has-none : (s : List ℕ) (k : Key) (r : ℕ) → Accepted s → StandsAt s k r → length s ≤ r → has s k ≡ false
+unfolding has
+has-none s k r acc (at-row i l e) h = absurd (omega (arith, l, h, acc .nodes .header .whole))
+has-none s k r acc (nowhere n) h = any-none _ (headerOf s .nodes) (λ i l. ne-same (nodeKeyAt s i) k (n i l))
+
+-- ---- 32
+
+module _ (a b : List ℕ) (k : Key) where
+  pub found-first : has a k ≡ true → 0 ≡ neither a b k
+  unfolding neither _when_otherwise_
+  found-first e = rw e refl
+
+  pub found-second : has b k ≡ true → 0 ≡ neither a b k
+  unfolding neither _when_otherwise_
+  found-second e = go (has a k)
+    where
+      go : (t : Bool) → 0 ≡ (32 when not (t || has b k) otherwise 0)
+      go true = refl
+      go false = rw e refl
+
+  pub found-neither : has a k ≡ false → has b k ≡ false → 32 ≡ neither a b k
+  unfolding neither _when_otherwise_
+  found-neither e f = rw (e, f) refl
+
+  -- ---- what is refused, in order
+
+  pub first-refuses : (r : Refusal) → r ≡ verdict 1 a → (r .number ≡ 0 → ⊥) → r ≡ lookFault a b k
+  unfolding lookFault
+  first-refuses r e z = then-some-is r (verdict 1 a) _ e z
+
+  pub second-refuses : (r t : Refusal) → r ≡ verdict 1 a → r .number ≡ 0 → t ≡ verdict 2 b → (t .number ≡ 0 → ⊥) → t ≡ lookFault a b k
+  unfolding lookFault
+  second-refuses r t e z f y = then-none-is r (verdict 1 a) t _ e z (then-some-is t (verdict 2 b) _ f y)
+
+  pub neither-refuses : (r t : Refusal) (n : ℕ) → r ≡ verdict 1 a → r .number ≡ 0 → t ≡ verdict 2 b → t .number ≡ 0 → n ≡ neither a b k → record { number = n; sheet = 0; row = 0 } ≡ lookFault a b k
+  unfolding lookFault refuse
+  neither-refuses r t n e z f y q = then-none-is r (verdict 1 a) (record { number = n; sheet = 0; row = 0 }) _ e z (then-none-is t (verdict 2 b) (record { number = n; sheet = 0; row = 0 }) _ f y (plain n (neither a b k) q))
+    where
+      plain : (n m : ℕ) → n ≡ m → record { number = n; sheet = 0; row = 0 } ≡ refuse m 0 0 none
+      plain n zero q = rw q refl
+      plain n (suc m) q = rw q refl
+
+  -- ---- what is given
+
+  module _ (r : Refusal) (f : r ≡ lookFault a b k) where
+    fault : lookFault a b k .number ≡ r .number
+    fault = sym (ap (λ (x : Refusal). x .number) f)
+
+    pub gives-none : (r .number ≡ 0 → ⊥) → LooksUp a b k []
+    gives-none z = refused (λ e. z (sym fault ∙ e))
+
+    pub gives-first : (at : ℕ) → r .number ≡ 0 → Row a k at → LooksUp a b k (take nodeWords (drop at a))
+    gives-first at z x = subst (λ (y : ℕ). LooksUp a b k (take nodeWords (drop y a))) (sym (x .place)) (in-first (x .row) (fault ∙ z) (x .inside) (x .names))
+
+    pub gives-second : (at : ℕ) → r .number ≡ 0 → has a k ≡ false → Row b k at → LooksUp a b k (take nodeWords (drop at b))
+    gives-second at z h x = subst (λ (y : ℕ). LooksUp a b k (take nodeWords (drop y b))) (sym (x .place)) (in-second (x .row) (fault ∙ z) h (x .inside) (x .names))
+
+    -- nothing is refused, so both sheets are accepted, and one that the first does not have is in the second
+    pub both-accepted : r .number ≡ 0 → Accepted a × Accepted b
+    unfolding lookFault
+    both-accepted z =
+        let v = then-good (verdict 1 a) _ (fault ∙ z) in
+        (accepted 1 a (v .0), accepted 2 b (then-good (verdict 2 b) _ (v .1) .0))
+
+    pub in-other : r .number ≡ 0 → has a k ≡ false → has b k ≡ true
+    unfolding lookFault neither refuse _when_otherwise_
+    in-other z h =
+        let v = then-good (verdict 1 a) _ (fault ∙ z) in
+        go (has b k) (rw h at (then-good (verdict 2 b) _ (v .1) .1))
+      where
+        go : (t : Bool) → refuse (32 when not (false || t) otherwise 0) 0 0 none .number ≡ 0 → t ≡ true
+        go true e = refl
+        go false e = absurd (omega (arith, e))
+
+-- the place of one that the sheet has
+pub has-place : (s : List ℕ) (k : Key) (r : ℕ) → Accepted s → StandsAt s k r → has s k ≡ true → r < length s
+has-place s k r acc st h = go (decLt r (length s))
+  where
+    go : Dec (r < length s) → r < length s
+    go (yes l) = l
+    go (no l) = absurd (true≢false (sym h ∙ has-none s k r acc st (omega arith)))
+
+-- by the key that was asked for
+pub four-part : (a b : List ℕ) (k k′ : Key) (ws ws′ : List ℕ) → k ≡ k′ → ws ≡ ws′ → LooksUp a b k ws → LooksUp a b k′ ws′
+four-part a b k k′ ws ws′ e f x = subst (λ (y : List ℕ). LooksUp a b k′ y) f (subst (λ (y : Key). LooksUp a b y ws) e x)
+
+-- a part has four words, or none
+pub looked-long : (a b : List ℕ) (k : Key) (ws : List ℕ) → LooksUp a b k ws → length ws ≤ 4
+looked-long a b k ws (refused z) = omega arith
+looked-long a b k ws (in-first i e l n) = omega (arith, length-take nodeWords (drop (edgesFrom i) a))
+looked-long a b k ws (in-second i e h l n) = omega (arith, length-take nodeWords (drop (edgesFrom i) b))

@@ -1,0 +1,121 @@
+-- `lookup::look_up` meets its contract: each part is the empty one, or the four words of a row that has the identity.
+-- Assumes nothing.
+use Rattle.lookup.proofs.Looking.{Row, stands-row, has-none, has-place, gives-none, gives-first, gives-second, both-accepted, in-other, four-part}
+use Rattle.sheet.specs.Rows.{nodeKey}
+use mathlib.Core.Path.{_≡_, refl, sym, ap, subst, _∙_}
+use native.Mathlib.Omega.{arith}
+use Prim.Native.Nat.{ℕ, _+_, _-_, _<_, _≤_}
+use borrow.Author.Needs.{needs}
+use Rattle.lookup.proofs.look_up.Statement.{statement}
+use Rattle.lookup.proofs.look_up.Tie as tie
+
+named-requires : tie.Need-named-requires
+named-requires c κs = search needs
+
+refusal-of-requires : tie.Need-refusal-of-requires
+refusal-of-requires c κs = search needs
+
+sub-result : tie.Need-sub-result
+sub-result c = search needs
+
+part-result-start : tie.Need-part-result-start
+part-result-start c = search needs
+
+part-result-end : tie.Need-part-result-end
+part-result-end c = search needs
+
+returns : tie.Need-returns
+returns c =
+    let N = c .before .before .before .before .named .ensures in
+    four-part _ _ _ _ _ _ N refl (gives-none _ _ _ _ (c .before .before .before .refusal-of .ensures) (c .before .if1 .taken))
+
+place-in-requires : tie.Need-place-in-requires
+place-in-requires c κs = both-accepted _ _ _ _ (c .before .before .refusal-of .ensures) (c .if1 .left) .0
+
+add-e : tie.Need-add-e
+add-e c =
+    let A = both-accepted _ _ _ _ (c .before .before .before .before .refusal-of .ensures) (c .before .before .if1 .left) .0 in
+    let r = stands-row _ _ _ A (c .before .place-in .ensures) (c .if2 .taken) in
+    omega (arith, r .room)
+
+mul-result : tie.Need-mul-result
+mul-result c = search needs
+
+sub-result-2 : tie.Need-sub-result-2
+sub-result-2 c = search needs
+
+part-result-start-2 : tie.Need-part-result-start-2
+part-result-start-2 c = search needs
+
+part-result-end-2 : tie.Need-part-result-end-2
+part-result-end-2 c =
+    let A = both-accepted _ _ _ _ (c .before .before .before .before .refusal-of .ensures) (c .before .before .if1 .left) .0 in
+    stands-row _ _ _ A (c .before .place-in .ensures) (c .if2 .taken) .room
+
+returns-2 : tie.Need-returns-2
+returns-2 c =
+    let N = c .before .before .before .before .before .before .named .ensures in
+    let R = c .before .before .before .before .before .refusal-of .ensures in
+    let Z = c .before .before .before .if1 .left in
+    let e : c .before .before .place-in .result + 4 - c .before .before .place-in .result ≡ 4 = omega arith in
+    rw e (four-part _ _ _ _ _ _ N refl (gives-first _ _ _ _ R _ Z (stands-row _ _ _ (both-accepted _ _ _ _ R Z .0) (c .before .before .place-in .ensures) (c .before .if2 .taken))))
+
+place-in-requires-2 : tie.Need-place-in-requires-2
+place-in-requires-2 c κs = both-accepted _ _ _ _ (c .before .before .before .before .refusal-of .ensures) (c .before .before .if1 .left) .1
+
+-- the second sheet has what the first has not, so its row stands there
+found : (k : tie.After-place-in2) → Row (k .before .before .before .before .before .before .before .before .before .args .second .now) (nodeKey (k .before .before .before .before .before .before .named .result)) (k .place-in2 .result)
+found k =
+    let R = k .before .before .before .before .before .refusal-of .ensures in
+    let Z = k .before .before .before .if1 .left in
+    let A = both-accepted _ _ _ _ R Z in
+    let h = has-none _ _ _ (A .0) (k .before .before .place-in .ensures) (k .before .if2 .left) in
+    stands-row _ _ _ (A .1) (k .place-in2 .ensures) (has-place _ _ _ (A .1) (k .place-in2 .ensures) (in-other _ _ _ _ R Z h))
+
+add-f : tie.Need-add-f
+add-f c = omega (arith, found c .low)
+
+mul-result-2 : tie.Need-mul-result-2
+mul-result-2 c = omega (arith, found c .low)
+
+sub-result-3 : tie.Need-sub-result-3
+sub-result-3 c = search needs
+
+part-result-start-3 : tie.Need-part-result-start-3
+part-result-start-3 c = search needs
+
+part-result-end-3 : tie.Need-part-result-end-3
+part-result-end-3 c = found c .room
+
+returns-3 : tie.Need-returns-3
+returns-3 c =
+    let N = c .before .before .before .before .before .before .before .named .ensures in
+    let R = c .before .before .before .before .before .before .refusal-of .ensures in
+    let Z = c .before .before .before .before .if1 .left in
+    let e : c .before .place-in2 .result + 4 - c .before .place-in2 .result ≡ 4 = omega arith in
+    rw e (four-part _ _ _ _ _ _ N refl (gives-second _ _ _ _ R _ Z (has-none _ _ _ (both-accepted _ _ _ _ R Z .0) (c .before .before .before .place-in .ensures) (c .before .before .if2 .left)) (found (c .before))))
+
+pub look-up-spec : {M : Type 1} → statement M
+look-up-spec =
+    tie.close
+    (tie.spec
+    named-requires
+    refusal-of-requires
+    sub-result
+    part-result-start
+    part-result-end
+    returns
+    place-in-requires
+    add-e
+    mul-result
+    sub-result-2
+    part-result-start-2
+    part-result-end-2
+    returns-2
+    place-in-requires-2
+    add-f
+    mul-result-2
+    sub-result-3
+    part-result-start-3
+    part-result-end-3
+    returns-3)

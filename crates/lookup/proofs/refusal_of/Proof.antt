@@ -1,0 +1,38 @@
+-- `lookup::refusal_of` meets its contract: the first sheet wholly, then the second, then 32.
+-- Assumes nothing.
+use Rattle.lookup.proofs.Looking.{first-refuses, second-refuses, neither-refuses}
+use Rattle.sheet.proofs.Accepting.{accepted}
+use Rattle.sheet.specs.declared.Refusal.{Refusal}
+use mathlib.Core.Path.{_≡_, sym, ap, _∙_}
+use borrow.Author.Needs.{needs}
+use Rattle.lookup.proofs.refusal_of.Statement.{statement}
+use Rattle.lookup.proofs.refusal_of.Tie as tie
+
+check-as-requires : tie.Need-check-as-requires
+check-as-requires c κs = search needs
+
+returns : tie.Need-returns
+returns c = first-refuses _ _ _ _ (c .before .before .check-as .ensures) (c .if1 .taken)
+
+check-as-requires-2 : tie.Need-check-as-requires-2
+check-as-requires-2 c κs = search needs
+
+returns-2 : tie.Need-returns-2
+returns-2 c = second-refuses _ _ _ _ _ (c .before .before .before .before .before .check-as .ensures) (c .before .before .before .if1 .left) (c .before .before .check-as2 .ensures) (c .if2 .taken)
+
+missing-in-requires : tie.Need-missing-in-requires
+missing-in-requires c κs = (accepted 1 _ (ap (λ (x : Refusal). x .number) (sym (c .before .before .before .before .before .check-as .ensures)) ∙ c .before .before .before .if1 .left), accepted 2 _ (ap (λ (x : Refusal). x .number) (sym (c .before .before .check-as2 .ensures)) ∙ c .if2 .left))
+
+returns-3 : tie.Need-returns-3
+returns-3 c = neither-refuses _ _ _ _ _ _ (c .before .before .before .before .before .before .check-as .ensures) (c .before .before .before .before .if1 .left) (c .before .before .before .check-as2 .ensures) (c .before .if2 .left) (c .missing-in .ensures)
+
+pub refusal-of-spec : {M : Type 1} → statement M
+refusal-of-spec =
+    tie.close
+    (tie.spec
+    check-as-requires
+    returns
+    check-as-requires-2
+    returns-2
+    missing-in-requires
+    returns-3)

@@ -1,0 +1,95 @@
+// Looking an identity up in two sheets at once: its row as it stands in the first that has it, and why there is none.
+use sheet::Found;
+use sheet::Node;
+use sheet::Refusal;
+ghost use mathlib.Core.Path.{_≡_};
+ghost use Rattle.tables.specs.Key.{identity};
+ghost use Rattle.sheet.specs.Rows.{nodeKey};
+ghost use Rattle.sheet.specs.Accepted.{Accepted};
+ghost use Rattle.lookup.specs.Looked.{neither, lookFault, LooksUp, StandsAt};
+
+// Where the words of an identity's row start; the length where no row has it.
+fn place_in(sheet: &[u32], wanted: Node) -> usize
+    requires { ⌜ Accepted (now sheet) ⌝ }
+    ensures { λ r. ⌜ StandsAt (now (sheet .entry)) (nodeKey wanted) r ⌝ }
+{
+    let h = sheet::header_of(sheet);
+    match sheet::find_node(sheet, h, wanted) {
+        Found::At(i) => sheet::HEADER_WORDS + sheet::NODE_WORDS * i,
+        Found::Nowhere => sheet.len(),
+    }
+}
+
+// 32 where neither sheet has the identity.
+fn missing_in(first: &[u32], second: &[u32], wanted: Node) -> u32
+    requires { ⌜ Accepted (now first) × Accepted (now second) ⌝ }
+    ensures { λ r. ⌜ r ≡ neither (now (first .entry)) (now (second .entry)) (nodeKey wanted) ⌝ }
+{
+    let here = place_in(first, wanted);
+    if here < first.len() {
+        return 0;
+    }
+    let there = place_in(second, wanted);
+    if there < second.len() {
+        return 0;
+    }
+    32
+}
+
+// What is refused of a lookup.
+fn refusal_of(first: &[u32], second: &[u32], wanted: Node) -> Refusal
+    ensures { λ r. ⌜ r ≡ lookFault (now (first .entry)) (now (second .entry)) (nodeKey wanted) ⌝ }
+{
+    let r = verdict::check_as(1, first);
+    if r.number != 0 {
+        return r;
+    }
+    let s = verdict::check_as(2, second);
+    if s.number != 0 {
+        return s;
+    }
+    Refusal {
+        number: missing_in(first, second, wanted),
+        sheet: 0,
+        row: 0,
+    }
+}
+
+// The row of an identity as it stands in the first of two sheets that has it; the empty part where that is refused.
+pub fn look_up<'a>(
+    first: &'a [u32],
+    second: &'a [u32],
+    class: u32,
+    number: u32,
+    variant: u32,
+) -> &'a [u32]
+    ensures { λ r. ⌜ LooksUp (now (first .entry)) (now (second .entry)) (identity class number variant) (now r) ⌝ }
+{
+    let wanted = sheet::named(class, number, variant);
+    let r = refusal_of(first, second, wanted);
+    if r.number != 0 {
+        return &first[0..0];
+    }
+    let i = place_in(first, wanted);
+    if i < first.len() {
+        let e = i + 4;
+        return &first[i..e];
+    }
+    let j = place_in(second, wanted);
+    let f = j + 4;
+    &second[j..f]
+}
+
+// The number and place of what a lookup with the same arguments is refused by; 0 throughout where the identity is found.
+pub fn look_up_refusal(
+    first: &[u32],
+    second: &[u32],
+    class: u32,
+    number: u32,
+    variant: u32,
+) -> Refusal
+    ensures { λ r. ⌜ r ≡ lookFault (now (first .entry)) (now (second .entry)) (identity class number variant) ⌝ }
+{
+    let wanted = sheet::named(class, number, variant);
+    refusal_of(first, second, wanted)
+}

@@ -1,0 +1,3 @@
+pub mod Merging
+pub mod Drawing
+pub mod Single

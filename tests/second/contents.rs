@@ -1,0 +1,43 @@
+//! What a sheet holds, by identities: each node and each edge with its offices.
+//! Row numbers are gone once it is made, and are given anew when it is written.
+
+use std::collections::BTreeMap;
+
+use crate::draft::Identity;
+use crate::outline::Link;
+use crate::sheet::*;
+
+#[derive(Clone, Debug, Default, PartialEq)]
+pub struct Contents {
+    pub nodes: BTreeMap<Identity, u32>,
+    pub edges: BTreeMap<Link, u32>,
+}
+
+impl Contents {
+    /// Of an accepted sheet.
+    pub fn of(words: &[u32]) -> Contents {
+        let (nodes, edges) = words[HEADER..].split_at(4 * words[2] as usize);
+        let identity = |row: &[u32]| (row[0], row[1], row[2]);
+        let end = |row: u32| identity(&nodes[4 * row as usize..]);
+        let link = |row: &[u32]| (row[0], end(row[1]), end(row[2]));
+        Contents {
+            nodes: nodes.chunks(4).map(|row| (identity(row), row[3])).collect(),
+            edges: edges.chunks(4).map(|row| (link(row), row[3])).collect(),
+        }
+    }
+
+    /// As the words of a sheet, whose rows rise.
+    pub fn words(&self, office_count: u32) -> Vec<u32> {
+        let rows: BTreeMap<&Identity, u32> = self.nodes.keys().zip(0..).collect();
+        let node = |(&(sort, number, variant), &offices)| [sort, number, variant, offices];
+        let edge = |(link, &offices): (&Link, &u32)| {
+            let (kind, from, to) = link;
+            [*kind, rows[from], rows[to], offices]
+        };
+        let mut nodes: Vec<Row> = self.nodes.iter().map(node).collect();
+        let mut edges: Vec<Row> = self.edges.iter().map(edge).collect();
+        nodes.sort();
+        edges.sort();
+        Sheet { office_count, nodes, edges }.words()
+    }
+}

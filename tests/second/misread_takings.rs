@@ -1,0 +1,200 @@
+//! Wrong versions of taking out, each with one mistake that looks reasonable.
+
+use crate::answer::{fitting, insist, sound, told, Answer, Refusal};
+use crate::contents::Contents;
+use crate::join::one_office;
+use crate::sheet::*;
+use crate::take_out::{own, take_out};
+use crate::trial::{Expected, Request, MOST_OUTPUT};
+
+struct Taking {
+    words: Vec<u32>,
+    office: u32,
+    room: usize,
+}
+
+type Outcome = Result<Answer, Refusal>;
+
+type Wrong = (&'static str, fn(&Taking) -> Outcome);
+
+const WRONG: [Wrong; 17] = [
+    ("keeps the other office's edge", keeps_edges),
+    ("does not renumber the ends", ends_kept),
+    ("leaves the marks as they are", marks_kept),
+    ("counts two offices", counts_two),
+    ("takes the other office out", other_office),
+    ("copies the sheet", copies),
+    ("leaves out what both offices have", without_shared),
+    ("leaves out nodes without an edge", without_lone_nodes),
+    ("leaves out the edges", without_edges),
+    ("20 before the sheet's faults", office_first),
+    ("25 before 20", room_before_office),
+    ("a sheet of one office is refused", one_refused),
+    ("office 2 of one has nothing", second_of_one),
+    ("office 3 is both", third_is_both),
+    ("office 0 is both", none_is_both),
+    ("an exact room is too short", exact_refused),
+    ("what fits is written", cut_to_fit),
+];
+
+pub fn names() -> Vec<&'static str> {
+    WRONG.iter().map(|wrong| wrong.0).collect()
+}
+
+/// What each of them would say, in the order of the names.
+pub fn replies(request: &Request) -> Vec<Expected> {
+    let (words, office) = (words_of(&request.first), request.numbers[0]);
+    let taking = Taking { words, office, room: request.out_len };
+    WRONG.iter().map(|(_, read)| told(request, read(&taking))).collect()
+}
+
+impl Taking {
+    fn right(&self) -> Outcome {
+        take_out(&self.words, self.office, self.room)
+    }
+
+    /// What the sheet holds, once the office may be taken out.
+    fn contents(&self) -> Result<Contents, Refusal> {
+        sound(&self.words, 1)?;
+        insist((1..=self.words[1]).contains(&self.office), 20)?;
+        Ok(Contents::of(&self.words))
+    }
+
+    fn fitting(&self, part: &Contents) -> Outcome {
+        fitting(part.words(1), self.room)
+    }
+}
+
+fn keeps_edges(taking: &Taking) -> Outcome {
+    let whole = taking.contents()?;
+    let mut part = own(&whole, taking.office);
+    for link in whole.edges.keys() {
+        if part.nodes.contains_key(&link.1) && part.nodes.contains_key(&link.2) {
+            part.edges.insert(*link, 1);
+        }
+    }
+    taking.fitting(&part)
+}
+
+fn ends_kept(taking: &Taking) -> Outcome {
+    let whole = taking.contents()?;
+    let part = own(&whole, taking.office);
+    let mut words = part.words(1);
+    let rows = taking.words[taking.words[5] as usize..].chunks(4);
+    let kept = rows.zip(whole.edges.keys()).filter(|(_, link)| part.edges.contains_key(link));
+    let at = words[5] as usize;
+    for (to, (row, _)) in words[at..].chunks_mut(4).zip(kept) {
+        to[..3].copy_from_slice(&row[..3]);
+    }
+    fitting(words, taking.room)
+}
+
+fn marks_kept(taking: &Taking) -> Outcome {
+    let whole = taking.contents()?;
+    let mut part = own(&whole, taking.office);
+    part.nodes.iter_mut().for_each(|(identity, offices)| *offices = whole.nodes[identity]);
+    part.edges.iter_mut().for_each(|(link, offices)| *offices = whole.edges[link]);
+    taking.fitting(&part)
+}
+
+fn counts_two(taking: &Taking) -> Outcome {
+    let part = own(&taking.contents()?, taking.office);
+    fitting(part.words(2), taking.room)
+}
+
+fn other_office(taking: &Taking) -> Outcome {
+    let whole = taking.contents()?;
+    let office = if taking.words[1] == 2 { 3 - taking.office } else { taking.office };
+    taking.fitting(&own(&whole, office))
+}
+
+fn copies(taking: &Taking) -> Outcome {
+    taking.contents()?;
+    fitting(taking.words.clone(), taking.room)
+}
+
+fn without_shared(taking: &Taking) -> Outcome {
+    let mut whole = taking.contents()?;
+    whole.nodes.retain(|_, offices| *offices != 3);
+    let Contents { nodes, edges } = &mut whole;
+    edges.retain(|link, _| nodes.contains_key(&link.1) && nodes.contains_key(&link.2));
+    taking.fitting(&own(&whole, taking.office))
+}
+
+fn without_lone_nodes(taking: &Taking) -> Outcome {
+    let mut part = own(&taking.contents()?, taking.office);
+    let Contents { nodes, edges } = &mut part;
+    nodes.retain(|node, _| edges.keys().any(|link| link.1 == *node || link.2 == *node));
+    taking.fitting(&part)
+}
+
+fn without_edges(taking: &Taking) -> Outcome {
+    let mut part = own(&taking.contents()?, taking.office);
+    part.edges.clear();
+    taking.fitting(&part)
+}
+
+fn office_first(taking: &Taking) -> Outcome {
+    let count = taking.words.get(1).copied().unwrap_or(0);
+    insist((1..=count).contains(&taking.office), 20)?;
+    taking.right()
+}
+
+/// Room for a header at least.
+fn room_before_office(taking: &Taking) -> Outcome {
+    sound(&taking.words, 1)?;
+    insist(taking.room >= HEADER, 25)?;
+    taking.right()
+}
+
+fn one_refused(taking: &Taking) -> Outcome {
+    sound(&taking.words, 1)?;
+    if one_office(&taking.words, 1).is_ok() {
+        return Err(Refusal { number: 28, sheet: 1, row: 0 });
+    }
+    taking.right()
+}
+
+fn second_of_one(taking: &Taking) -> Outcome {
+    sound(&taking.words, 1)?;
+    match taking.office {
+        2 => taking.fitting(&own(&Contents::of(&taking.words), 2)),
+        _ => taking.right(),
+    }
+}
+
+/// Every row, marked 1.
+fn everything(taking: &Taking) -> Outcome {
+    let mut whole = Contents::of(&taking.words);
+    let marks = whole.nodes.values_mut().chain(whole.edges.values_mut());
+    marks.for_each(|offices| *offices = 1);
+    taking.fitting(&whole)
+}
+
+fn third_is_both(taking: &Taking) -> Outcome {
+    sound(&taking.words, 1)?;
+    match taking.office {
+        3 => everything(taking),
+        _ => taking.right(),
+    }
+}
+
+fn none_is_both(taking: &Taking) -> Outcome {
+    sound(&taking.words, 1)?;
+    match taking.office {
+        0 => everything(taking),
+        _ => taking.right(),
+    }
+}
+
+fn exact_refused(taking: &Taking) -> Outcome {
+    let answer = taking.right()?;
+    insist(taking.room > answer.written.len(), 25)?;
+    Ok(answer)
+}
+
+fn cut_to_fit(taking: &Taking) -> Outcome {
+    let mut answer = take_out(&taking.words, taking.office, MOST_OUTPUT)?;
+    answer.written.truncate(taking.room);
+    Ok(answer)
+}

@@ -1,0 +1,246 @@
+//! Tests of joining and taking out, by hand and row by row, of how their cases
+//! are made, and that they tell each wrong version from the right one.
+
+use crate::answer::{Answer, Refusal};
+use crate::case::{Case, Counts, Plan};
+use crate::contents::Contents;
+use crate::join::{self, join, union, JOIN};
+use crate::join_inquiry;
+use crate::joins::{FULL, LIMITS};
+use crate::judge::judge_words;
+use crate::misread_joins;
+use crate::misread_takings;
+use crate::named_joins;
+use crate::random::Random;
+use crate::selftest_named;
+use crate::selftest_questions::{HAND_WORDS, JOINT_WORDS};
+use crate::sheet::*;
+use crate::sister::*;
+use crate::take_out::{self, take_out, TAKE_OUT};
+use crate::tally::Tally;
+use crate::trial::{Expected, Request};
+use crate::unions::{self, UNIONS};
+
+/// A fifth of the random cases of a run, and how many of them have to show each
+/// mistake.
+const CASES: usize = 2_000;
+const ENOUGH: usize = 10;
+
+pub fn run(tally: &mut Tally) {
+    joined_by_hand(tally);
+    taken_out_by_hand(tally);
+    outputs(tally);
+    row_by_row(tally);
+    made_unions(tally);
+    selftest_named::run(tally, "joins", &named_joins::all(), Plan::before_joins);
+    repeatable_joins(tally);
+    told_apart(tally);
+}
+
+fn refused(number: u32, sheet: u32) -> Result<Answer, Refusal> {
+    Err(Refusal { number, sheet, row: 0 })
+}
+
+/// Person 5 in category 6; category 6 in 7.
+#[rustfmt::skip]
+const LEFT: [u32; 26] = [1,1,3,2,6,18, 1,5,0,1, 2,6,0,1, 2,7,0,1, 1,0,1,1, 2,1,2,1];
+
+/// Persons 4 and 5, category 6; 5 in 6.
+#[rustfmt::skip]
+const RIGHT: [u32; 22] = [1,1,3,1,6,18, 1,4,0,1, 1,5,0,1, 2,6,0,1, 1,1,2,1];
+
+/// Persons 4 and 5, categories 6 and 7: 5 in 6 by both, 6 in 7 by the left.
+#[rustfmt::skip]
+const TOGETHER: [u32; 30] = [
+    1,2,4,2,6,22, 1,4,0,2, 1,5,0,3, 2,6,0,3, 2,7,0,1, 1,1,2,3, 2,2,3,1,
+];
+
+fn joined_by_hand(tally: &mut Tally) {
+    let joined = |value: u32, extras: [u32; 2], words: &[u32]| {
+        Ok(Answer { value, count: words.len() as u32, extras, written: words.to_vec() })
+    };
+    let (a, b) = (sheet_a().words(), sheet_b().words());
+    let ships = joined(8, [4, 2], &JOINT_WORDS);
+    tally.test("A and B joined", join(&a, &b, 70) == ships);
+    tally.test("A and B joined, more room", join(&a, &b, 71) == ships);
+    tally.test("A and B, one word short", join(&a, &b, 69) == refused(25, 0));
+    tally.test("left and right", join(&LEFT, &RIGHT, 30) == joined(4, [2, 1], &TOGETHER));
+    let nothing = [1, 1, 0, 0, 6, 6];
+    let empty = joined(0, [0, 0], &[1, 2, 0, 0, 6, 6]);
+    tally.test("nothing twice", join(&nothing, &nothing, 6) == empty);
+    tally.test("nothing twice, no room", join(&nothing, &nothing, 5) == refused(25, 0));
+    tally.test("two offices first", join(&TOGETHER, &LEFT, 99) == refused(28, 1));
+    tally.test("two offices second", join(&LEFT, &TOGETHER, 0) == refused(28, 2));
+    tally.test("two offices twice", join(&TOGETHER, &JOINT_WORDS, 99) == refused(28, 1));
+    tally.test("a bad second before 28", join(&TOGETHER, &[1], 99) == refused(1, 2));
+    tally.test("a bad first before all", join(&[], &[1], 99) == refused(1, 1));
+}
+
+fn taken_out_by_hand(tally: &mut Tally) {
+    let list = |words: &[u32]| {
+        Ok(Answer { count: words.len() as u32, written: words.to_vec(), ..Answer::default() })
+    };
+    let (a, b) = (sheet_a().words(), sheet_b().words());
+    tally.test("office 1 of the joint is A", take_out(&JOINT_WORDS, 1, 66) == list(&a));
+    tally.test("office 2 of the joint is B", take_out(&JOINT_WORDS, 2, 34) == list(&b));
+    tally.test("office 1 of left and right", take_out(&TOGETHER, 1, 26) == list(&LEFT));
+    tally.test("office 2 of left and right", take_out(&TOGETHER, 2, 99) == list(&RIGHT));
+    tally.test("one word short", take_out(&TOGETHER, 2, 21) == refused(25, 0));
+    // Category 6 goes, and with it every row that names it.
+    #[rustfmt::skip]
+    let second = [
+        1,1,6,5,6,30, 1,5,0,1, 2,7,0,1, 2,8,0,1, 3,9,0,1, 3,9,4,1, 4,3,0,1,
+        1,0,1,1, 2,1,2,1, 3,2,3,1, 3,2,4,1, 5,4,5,1,
+    ];
+    tally.test("office 2 of the sheet by hand", take_out(&HAND_WORDS, 2, 50) == list(&second));
+    for office in [0, 3, 4, u32::MAX] {
+        let name = format!("office {office} of the joint by hand");
+        tally.test(&name, take_out(&JOINT_WORDS, office, 0) == refused(20, 0));
+    }
+    tally.test("office 2 of A", take_out(&a, 2, 99) == refused(20, 0));
+    tally.test("office 1 of A", take_out(&a, 1, 99) == list(&a));
+    tally.test("a bad sheet before its office", take_out(&a[..5], 9, 0) == refused(1, 1));
+}
+
+fn outputs(tally: &mut Tally) {
+    let request = |operation: u32, first: &[u32], out_len: usize| Request {
+        operation,
+        numbers: [2, 77, 77, 77, 77, 77],
+        first: bytes_of(first),
+        second: bytes_of(&RIGHT),
+        out_len,
+        fill: 70,
+    };
+    let joint = join::expect(&request(JOIN, &LEFT, 32));
+    tally.test("a joint and the fill", joint.output == [&TOGETHER[..], &[70, 70]].concat());
+    tally.test("a joint's reply", joint.reply == [0, 0, 0, 4, 30, 2, 1, 32]);
+    let short = join::expect(&request(JOIN, &LEFT, 29));
+    tally.test("a joint too long leaves the fill", short.output == [70; 29]);
+    tally.test("a joint too long, the reply", short.reply == [25, 0, 0, 0, 0, 0, 0, 29]);
+    let part = take_out::expect(&request(TAKE_OUT, &TOGETHER, 23));
+    tally.test("a part and the fill", part.output == [&RIGHT[..], &[70]].concat());
+    tally.test("a part's reply", part.reply == [0, 0, 0, 0, 22, 0, 0, 23]);
+    let bad = take_out::expect(&request(TAKE_OUT, &LEFT, 3));
+    tally.test("an office refused, the reply", bad.reply == [20, 0, 0, 0, 0, 0, 0, 3]);
+    tally.test("an office refused leaves the fill", bad.output == [70; 3]);
+}
+
+/// Every row of a sheet with its ends spelt out: nodes, then edges.
+fn spelt(words: &[u32]) -> (Vec<Vec<u32>>, Vec<Vec<u32>>) {
+    let rows: Vec<&[u32]> = words[HEADER..].chunks(4).collect();
+    let (nodes, edges) = rows.split_at(words[2] as usize);
+    let end = |row: u32| nodes[row as usize][..3].to_vec();
+    let edge = |row: &&[u32]| [vec![row[0]], end(row[1]), end(row[2]), vec![row[3]]].concat();
+    (nodes.iter().map(|row| row.to_vec()).collect(), edges.iter().map(edge).collect())
+}
+
+/// Each row of the joint stands in an input, marked by those that have it, and
+/// each row of an input in the joint: row by row, without the maps.
+fn joint_fits(joint: &[Vec<u32>], one: &[Vec<u32>], other: &[Vec<u32>], shared: u32) -> bool {
+    let named = |rows: &[Vec<u32>], row: &Vec<u32>| {
+        rows.iter().any(|other| other[..other.len() - 1] == row[..row.len() - 1])
+    };
+    let marked = |row: &Vec<u32>| {
+        let mark = match (named(one, row), named(other, row)) {
+            (true, true) => 3,
+            (false, true) => 2,
+            (true, false) => 1,
+            (false, false) => 0,
+        };
+        row[row.len() - 1] == mark
+    };
+    joint.iter().all(marked)
+        && one.iter().chain(other).all(|row| named(joint, row))
+        && joint.len() + shared as usize == one.len() + other.len()
+}
+
+fn row_by_row(tally: &mut Tally) {
+    for number in 0..400 {
+        let [first, second] = join_inquiry::joined_pair(&mut Random::for_case(13, number));
+        let joint = join(&first, &second, 20_000).unwrap_or_default();
+        let words = &joint.written;
+        let valid = judge_words(words).number == 0 && words[1] == 2;
+        tally.test(&format!("joint {number} is a sheet of two offices"), valid);
+        if !valid {
+            continue;
+        }
+        let (one, other, all) = (spelt(&first), spelt(&second), spelt(words));
+        let nodes = joint_fits(&all.0, &one.0, &other.0, joint.extras[0]);
+        tally.test(&format!("joint {number}, the nodes"), nodes && joint.value == words[2]);
+        let edges = joint_fits(&all.1, &one.1, &other.1, joint.extras[1]);
+        tally.test(&format!("joint {number}, the edges"), edges);
+        for (office, input) in [(1, &first), (2, &second)] {
+            let back = take_out(words, office, input.len()).unwrap_or_default().written;
+            tally.test(&format!("joint {number}, office {office} taken out"), back == *input);
+        }
+    }
+}
+
+fn made_unions(tally: &mut Tally) {
+    for (nodes, edges) in UNIONS {
+        for number in 0..6 {
+            let random = &mut Random::for_case(17, number);
+            let (first, second) = unions::pair(random, nodes, edges);
+            let [first, second] = [first, second].map(|side| side.marked(random, 1).words());
+            let valid = [&first, &second].map(|words| judge_words(words).number) == [0, 0];
+            let joint = union(&Contents::of(&first), &Contents::of(&second));
+            let right = joint.nodes.len() == nodes && joint.edges.len() == edges;
+            let name = format!("union {number} of {nodes} nodes and {edges} edges");
+            tally.test(&name, valid && right);
+        }
+    }
+}
+
+fn repeatable_joins(tally: &mut Tally) {
+    let of = |seed, joins| Plan::new(seed, Counts { joins, ..Counts::default() });
+    let (plan, again, other) = (of(5, 200), of(5, 900), of(6, 200));
+    let bytes = |plan: &Plan, number| plan.case(number).request.bytes();
+    let numbers = plan.len() - 200..plan.len();
+    let same = numbers.clone().rev().all(|number| bytes(&plan, number) == bytes(&again, number));
+    tally.test("a join follows from seed and number", same);
+    let differ =
+        numbers.clone().filter(|&number| bytes(&plan, number) != bytes(&other, number)).count();
+    tally.test("another seed makes other joins", differ == 200);
+    round_trips(tally, numbers.map(|number| plan.case(number)).collect());
+}
+
+/// Each join of a round trip is followed by the takings out of its own joint.
+fn round_trips(tally: &mut Tally, cases: Vec<Case>) {
+    let there = |case: &Case| case.about.kind == "join: round trip";
+    let trips: Vec<&[Case]> = cases.windows(3).filter(|three| there(&three[0])).collect();
+    tally.test("three of ten are a round trip", trips.len() == 20);
+    for three in trips {
+        let joint = &three[0].expected.output[..three[0].expected.reply[4] as usize];
+        let inputs = [&three[0].request.first, &three[0].request.second].map(|it| words_of(it));
+        for (leg, input) in three[1..].iter().zip(inputs) {
+            let back = leg.expected.output[..leg.expected.reply[4] as usize] == input;
+            let same = words_of(&leg.request.first) == joint && leg.about.own_fault.is_none();
+            tally.test(&format!("round trip, case {}", leg.about.number), same && back);
+        }
+    }
+}
+
+type Replies = fn(&Request) -> Vec<Expected>;
+
+/// The random cases, and those at the limits and of full sheets.
+fn told_apart(tally: &mut Tally) {
+    let plan = Plan::new(1, Counts { joins: CASES, ..Counts::default() });
+    let first = plan.len() - CASES - FULL - LIMITS;
+    let cases: Vec<Case> = (first..plan.len()).map(|number| plan.case(number)).collect();
+    let all: [(u32, Vec<&str>, Replies); 2] = [
+        (JOIN, misread_joins::names(), misread_joins::replies),
+        (TAKE_OUT, misread_takings::names(), misread_takings::replies),
+    ];
+    for (operation, names, replies) in all {
+        let mut told = vec![0; names.len()];
+        for case in cases.iter().filter(|case| case.about.operation == operation) {
+            for (count, reply) in told.iter_mut().zip(replies(&case.request)) {
+                *count += usize::from(reply != case.expected);
+            }
+        }
+        for (name, count) in names.iter().zip(told) {
+            let name = format!("told apart in operation {operation}: {name} ({count} times)");
+            tally.test(&name, count >= ENOUGH);
+        }
+    }
+}
