@@ -9,6 +9,7 @@ use mathlib.Core.Logic.{⊎-elim}
 use lib.Dec.{ltb, eqb}
 use lib.ListN.{length, getD, drop}
 use borrow.Author.Tests.{ltb-true, ltb-false, eqb-true, eqb-false, eq-eqb, ne-eqb}
+use Rattle.tables.specs.Count.{numberOf}
 use Rattle.tables.specs.Key.{Key, relation, sameKey}
 use Rattle.tables.specs.Office.{View}
 use Rattle.tables.proofs.Keys.{same-eq, eq-same}
@@ -25,7 +26,7 @@ use Rattle.paths.proofs.Tests.{and-left, and-right, both, or-cases}
 use Rattle.meaning.specs.Paths.{Side, rightKind, category, deed, member, contained, applies, step, carries, path, pairs, spell, firsts, isPath}
 use Rattle.meaning.proofs.Spelling.{spelt, spell-long}
 use Rattle.ask.specs.Asked.{sideOf, badOffice}
-use Rattle.ask.specs.Listed.{numberOf, rowOf, everySecond, plainFrom, framed, wayFrom, goesOn}
+use Rattle.ask.specs.Listed.{rowOf, everySecond, plainFrom, framed, wayFrom, goesOn}
 use Rattle.ask.specs.Placed.{AtOffice}
 use Rattle.ask.proofs.Deciding.{words-of, side-grant, side-ban}
 

@@ -1,7 +1,7 @@
 -- Question 4: what the inner functions tell of a lent list of words. Number and variant of category j are the words 2 + 2 * j and 3 + 2 * j.
 -- Assumes nothing.
 use Prim.Native.Nat.{ℕ, zero, suc, _+_, _*_, _/_, _%_}
-use mathlib.Core.Bool.{Bool, true, false, not, _&&_}
+use mathlib.Core.Bool.{Bool, true, not, _&&_}
 use mathlib.Core.List.{List, [], _∷_}
 use lib.ListN.{getD}
 use Rattle.tables.specs.Key.{sameKey}
@@ -11,11 +11,6 @@ use Rattle.sheet.specs.declared.Node.{Node}
 use Rattle.sheet.specs.Refusals.{_is_}
 use Rattle.sheet.specs.Rows.{edgeAt, nodeKey, nodeKeyAt}
 use Rattle.meaning.specs.Paths.{Side, step, carries}
-
--- 1 yes, 0 no
-abbrev pub numberOf : Bool → ℕ
-numberOf true = 1
-numberOf false = 0
 
 -- row j of the edge table t has the kind and the mark and runs from one identity to the other
 unfoldable pub rowOf : List ℕ → List ℕ → ℕ → ℕ → Node → Node → ℕ → Bool

@@ -8,6 +8,7 @@ ghost use mathlib.Core.Bool.{true, false, _&&_, _||_};
 ghost use Prim.Native.Nat.{ℕ, suc, _+_, _-_, _*_, _/_, _%_, _^_, _<_, _≤_};
 ghost use lib.ListN.{length, getD, take, drop};
 ghost use mathlib.Core.List.{_++_};
+ghost use Rattle.tables.specs.Count.{numberOf};
 ghost use Rattle.tables.specs.Key.{identity, relation};
 ghost use Rattle.sheet.specs.Limits.{maxOffices, maxNodes};
 ghost use Rattle.sheet.specs.Refusals.{_is_, none};
@@ -23,7 +24,7 @@ ghost use Rattle.meaning.specs.Questions.{WitnessIs};
 ghost use Rattle.ask.specs.Asked.{FirstStanding, stands, badOffice, askFault, jointFault, plain, afterSheet, sideOf};
 ghost use Rattle.ask.specs.Placed.{Placed, AtOffice, FoundAll, unfound, StandsSo};
 ghost use Rattle.ask.specs.Replies.{refusedBy, tells, Replies, Shows};
-ghost use Rattle.ask.specs.Listed.{numberOf, rowOf, everySecond, plainFrom, framed, wayFrom, goesOn};
+ghost use Rattle.ask.specs.Listed.{rowOf, everySecond, plainFrom, framed, wayFrom, goesOn};
 ghost use Rattle.ask.specs.Passing.{passing, telling};
 ghost use Rattle.ask.specs.Written.{nodeWords, RowsIn, Measured, PathRows};
 

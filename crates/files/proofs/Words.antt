@@ -6,8 +6,8 @@ use mathlib.Core.List.{List, [], _∷_, _++_}
 use mathlib.Core.Bool.{Bool, false, true, not, _||_, true≢false}
 use native.Mathlib.Omega.{arith}
 use lib.Dec.{eqb, ltb}
-use lib.ListN.{length, getD, take, drop, set}
-use lib.Seq.{drop-cons, sets, take-at}
+use lib.ListN.{length, getD, take, drop}
+use lib.Seq.{drop-cons, take-at}
 use borrow.Author.Tests.{ltb-false}
 use Rattle.sheet.specs.Limits.{maxBytes}
 use Rattle.sheet.proofs.Refusing.{line-good}
@@ -56,14 +56,6 @@ unfolding bytesOf
 bytes-next [] i h = absurd (omega (arith, h))
 bytes-next (w ∷ ws) zero h = refl
 bytes-next (w ∷ ws) (suc i) h = let e : 4 * suc i ≡ suc (suc (suc (suc (4 * i)))) = omega arith in rw e (bytes-next ws i (omega (arith, h)))
-
--- four stores, one after the other, are a run
-pub stores : (l : List ℕ) (at w0 w1 w2 w3 : ℕ) → set (set (set (set l at w0) (at + 1) w1) (at + 2) w2) (at + 3) w3 ≡ sets l at (w0 ∷ w1 ∷ w2 ∷ w3 ∷ [])
-stores l at w0 w1 w2 w3 =
-    let e1 : at + 1 ≡ suc at = omega arith in
-    let e2 : at + 2 ≡ suc (suc at) = omega arith in
-    let e3 : at + 3 ≡ suc (suc (suc at)) = omega arith in
-    rw (e1, e2, e3) refl
 
 -- of words that the file's words stand in front of, the part that is the file's
 pub decoded : (w bs d : List ℕ) → w ≡ wordsOf bs ++ d → take (length bs / 4 - 0) w ≡ wordsOf bs

@@ -9,8 +9,7 @@ use Rattle.sheet.specs.declared.Header.{Header}
 use Rattle.sheet.specs.Limits.{sheetWords}
 use Rattle.sheet.specs.Rows.{headerOf}
 use Rattle.merge.specs.declared.Places.{Places}
-use Rattle.merge.specs.Merged.{shared}
-use Rattle.merge.specs.Lent.{rowsIn, keyVia, PlacesAre}
+use Rattle.merge.specs.Lent.{Counts, PlacesAre}
 use Rattle.join.specs.declared.Joined.{Joined}
 use Rattle.join.specs.Joined.{sharedNodes, sharedEdges, unionNodes, unionEdges, tooMuch, unionFault, tells, Joins, joined}
 use Rattle.join.specs.Laid.{Joinable, nodePart, edgePart, Laid}
@@ -23,8 +22,7 @@ module _ (a : List ℕ) (h : Header) (A : Joinable a h) (b : List ℕ) (g : Head
   -- the union's node rows and the shared ones are as many as both sheets have
   nodes-count : r .count + sharedNodes a b ≡ headerOf a .nodes + headerOf b .nodes
   nodes-count =
-      let c = P .merged .drawn .walked .count in
-      omega (arith, c, shared-nodes a h A b g B, node-rows a h A, node-rows b g B, same-nodes a h A, same-nodes b g B)
+      omega (arith, P .count, shared-nodes a h A b g B, node-rows a h A, node-rows b g B, same-nodes a h A, same-nodes b g B)
 
   pub nodes-union : r .count ≡ unionNodes a b
   unfolding unionNodes
@@ -33,7 +31,7 @@ module _ (a : List ℕ) (h : Header) (A : Joinable a h) (b : List ℕ) (g : Head
   pub nodes-most : r .count ≤ h .nodes + g .nodes
   nodes-most = omega (arith, nodes-count, same-nodes a h A, same-nodes b g B)
 
-  module _ (e : ℕ) (count : e + shared (rowsIn (edgePart a h)) (keyVia (r .first) (edgePart a h)) (rowsIn (edgePart b g)) (keyVia (r .second) (edgePart b g)) ≡ rowsIn (edgePart a h) + rowsIn (edgePart b g)) where
+  module _ (e : ℕ) (count : Counts (r .first) (edgePart a h) (r .second) (edgePart b g) e) where
     edges-count : e + sharedEdges a b ≡ headerOf a .edges + headerOf b .edges
     edges-count = omega (arith, count, shared-edges a h A b g B r P, edge-rows a h A, edge-rows b g B, same-edges a h A, same-edges b g B)
 

@@ -10,7 +10,7 @@ use Rattle.sheet.specs.Limits.{sheetWords, edgesFrom}
 use Rattle.sheet.proofs.Refusing.{from-on}
 use Rattle.carry.specs.Stored.{headerSix}
 use Rattle.merge.specs.Lent.{Draws}
-use Rattle.join.specs.Laid.{Laid}
+use Rattle.join.specs.Laid.{jointOffices, jointShift, Laid}
 
 -- the tail of l, where its front p ends, is lent, and ws is written to its front
 lent-front : (l p q ws t : List ℕ) (e : ℕ) → l ≡ p ++ q → length p ≡ e → t ≡ ws ++ drop (length ws) (take (length l - e) (drop e l))
@@ -37,28 +37,28 @@ second-room l t d k q g e h =
     let s = length-drop k (take d l ++ (t ++ drop (length l - d) (drop d l))) in
     omega arith
 
-module _ (na nb ma ea mb eb : List ℕ) (n e : ℕ) (out : List ℕ) (room : sheetWords n e ≤ length out) (l : List ℕ) (first : l ≡ sets out 0 (headerSix 2 n e)) where
-  six : length (headerSix 2 n e) ≡ 6
+module _ (na nb ma ea mb eb : List ℕ) (n e : ℕ) (out : List ℕ) (room : sheetWords n e ≤ length out) (l : List ℕ) (first : l ≡ sets out 0 (headerSix jointOffices n e)) where
+  six : length (headerSix jointOffices n e) ≡ 6
   unfolding headerSix
   six = refl
 
-  headed : l ≡ headerSix 2 n e ++ drop 6 out
+  headed : l ≡ headerSix jointOffices n e ++ drop 6 out
   unfolding headerSix
-  headed = first ∙ sets-eq (headerSix 2 n e) out 0 (omega arith)
+  headed = first ∙ sets-eq (headerSix jointOffices n e) out 0 (omega arith)
 
-  pub laid : (t : List ℕ) → Draws [] na [] nb n (take (length l - 6) (drop 6 l)) t → (m : List ℕ) → m ≡ take 6 l ++ (t ++ drop (length l - 6) (drop 6 l))
-      → (u : List ℕ) → Draws ma ea mb eb e (take (length m - edgesFrom n) (drop (edgesFrom n) m)) u → Laid na nb ma ea mb eb n e out (take (edgesFrom n) m ++ (u ++ drop (length m - edgesFrom n) (drop (edgesFrom n) m)))
+  pub laid : (t : List ℕ) → Draws jointShift [] na [] nb n (take (length l - 6) (drop 6 l)) t → (m : List ℕ) → m ≡ take 6 l ++ (t ++ drop (length l - 6) (drop 6 l))
+      → (u : List ℕ) → Draws jointShift ma ea mb eb e (take (length m - edgesFrom n) (drop (edgesFrom n) m)) u → Laid na nb ma ea mb eb n e out (take (edgesFrom n) m ++ (u ++ drop (length m - edgesFrom n) (drop (edgesFrom n) m)))
   laid t N m second u E =
       let wn = N .words in
       let we = E .words in
-      let s = second ∙ lent-front l (headerSix 2 n e) (drop 6 out) wn t 6 headed six (N .holds) in
-      let long : length (headerSix 2 n e ++ wn) ≡ edgesFrom n = length-append (headerSix 2 n e) wn ∙ omega (arith, six, N .drawn .long) in
+      let s = second ∙ lent-front l (headerSix jointOffices n e) (drop 6 out) wn t 6 headed six (N .holds) in
+      let long : length (headerSix jointOffices n e ++ wn) ≡ edgesFrom n = length-append (headerSix jointOffices n e) wn ∙ omega (arith, six, N .drawn .long) in
       let k : 6 + length wn + length we ≡ sheetWords n e = omega (arith, N .drawn .long, E .drawn .long) in
       record {
         nodes = wn;
         edges = we;
         nodes-drawn = N .drawn;
         edges-drawn = E .drawn;
-        holds = lent-front m (headerSix 2 n e ++ wn) (drop (length wn) (drop 6 out)) we u (edgesFrom n) s long (E .holds)
-            ∙ ap (λ (x : List ℕ). headerSix 2 n e ++ wn ++ we ++ x) (ap (drop (length we)) (drop-drop (length wn) 6 out) ∙ drop-drop (length we) (6 + length wn) out ∙ ap (λ (x : ℕ). drop x out) k);
+        holds = lent-front m (headerSix jointOffices n e ++ wn) (drop (length wn) (drop 6 out)) we u (edgesFrom n) s long (E .holds)
+            ∙ ap (λ (x : List ℕ). headerSix jointOffices n e ++ wn ++ we ++ x) (ap (drop (length we)) (drop-drop (length wn) 6 out) ∙ drop-drop (length we) (6 + length wn) out ∙ ap (λ (x : ℕ). drop x out) k);
       }

@@ -1,23 +1,28 @@
 -- Two sheets matched row by row: where their node rows go in the union, that their edge rows merge by those places, and that the rows shared are the identities found in both.
 -- Assumes nothing.
-use Prim.Native.Nat.{ℕ, _<_}
+use Prim.Native.Nat.{ℕ, _^_, _<_}
 use mathlib.Core.Path.{_≡_, sym, ap, ap₂, _∙_}
 use mathlib.Core.List.{List, [], _∷_}
 use native.Mathlib.Omega.{arith}
+use Rattle.tables.specs.Count.{howMany}
 use Rattle.tables.specs.Key.{Key, sameKey, relation}
+use Rattle.tables.proofs.Counts.{many-same}
 use Rattle.tables.proofs.Keys.{same-eq, eq-same}
 use Rattle.sheet.specs.declared.Header.{Header}
+use Rattle.sheet.specs.Accepted.{MarksFit}
 use Rattle.sheet.specs.Rows.{edgeAt, edgeTable, nodeKeyAt}
 use Rattle.sheet.specs.Named.{edgeRow}
 use Rattle.carry.proofs.Carrying.{both-ways}
 use Rattle.merge.specs.declared.Places.{Places}
-use Rattle.merge.specs.Merged.{shared, place, has, howMany, Merged}
-use Rattle.merge.specs.Lent.{through, rowsIn, keyVia, rowIn, Mergeable, PlacesAre}
-use Rattle.merge.proofs.Merging.{many-same, has-same, places-rise, place-same}
-use Rattle.merge.proofs.Drawing.{entry-inside}
+use Rattle.meaning.specs.Join.{officesOf}
+use Rattle.merge.specs.Merged.{shared, place, has, Walked}
+use Rattle.merge.specs.Lent.{through, rowsIn, keyVia, marksIn, tableVia, Mergeable, SideBySide, PlacesAre}
+use Rattle.merge.proofs.Merging.{has-same, places-rise, place-same}
+use Rattle.merge.proofs.Marking.{Union, unites}
+use Rattle.merge.proofs.Drawing.{entry-inside, first-table, second-table}
 use Rattle.join.specs.Joined.{relationAt, sharedNodes, sharedEdges}
-use Rattle.join.specs.Laid.{Joinable, nodePart, edgePart}
-use Rattle.join.proofs.Parts.{formed, fits, same-nodes, same-edges, node-rows, node-key, nodes-up, edge-rows, edge-key, edges-up}
+use Rattle.join.specs.Laid.{jointShift, Joinable, nodePart, edgePart}
+use Rattle.join.proofs.Parts.{formed, fits, same-nodes, same-edges, one-office, node-rows, node-key, node-fit, nodes-up, edge-rows, edge-key, edge-fit, edges-up}
 
 -- as many rows are shared where the same keys are the same
 shared-alike : (n n′ m m′ : ℕ) (f f′ g g′ : ℕ → Key) → n ≡ n′ → m ≡ m′ → ((x y : ℕ) → x < n → y < m → sameKey (g y) (f x) ≡ sameKey (g′ y) (f′ x)) → shared n f m g ≡ shared n′ f′ m′ g′
@@ -35,6 +40,19 @@ module _ (a : List ℕ) (h : Header) (A : Joinable a h) (b : List ℕ) (g : Head
         first-most = omega (arith, node-rows a h A, fits a h A .nodes);
         second-most = omega (arith, node-rows b g B, fits b g B .nodes);
       }
+
+  -- both have one office, so their marks fit side by side
+  pub two : jointShift ≡ 2 ^ officesOf a
+  two = sym (ap (λ (o : ℕ). 2 ^ o) (one-office a h A))
+
+  abbrev beside : (ta tb : List ℕ) → ((i : ℕ) → i < rowsIn ta → MarksFit (officesOf a) (marksIn ta i)) → ((i : ℕ) → i < rowsIn tb → MarksFit (officesOf b) (marksIn tb i)) → SideBySide jointShift ta tb
+  beside ta tb f k = record { offices = officesOf a; others = officesOf b; counts = two; room = omega (arith, one-office a h A, one-office b g B); first = f; second = k }
+
+  abbrev pub nodes-beside : SideBySide jointShift (nodePart a h) (nodePart b g)
+  nodes-beside = beside _ _ (node-fit a h A) (node-fit b g B)
+
+  abbrev pub edges-beside : SideBySide jointShift (edgePart a h) (edgePart b g)
+  edges-beside = beside _ _ (edge-fit a h A) (edge-fit b g B)
 
   pub shared-nodes : shared (rowsIn (nodePart a h)) (keyVia [] (nodePart a h)) (rowsIn (nodePart b g)) (keyVia [] (nodePart b g)) ≡ sharedNodes a b
   unfolding sharedNodes
@@ -66,14 +84,18 @@ module _ (a : List ℕ) (h : Header) (A : Joinable a h) (b : List ℕ) (g : Head
         let n = node-rows b g B in
         sym (entry-inside (r .second) x (omega (arith, P .second .long, fits b g B .nodes))) ∙ P .second .each x (omega arith)
 
-    W : Merged (rowsIn (nodePart a h)) (keyVia [] (nodePart a h)) (rowsIn (nodePart b g)) (keyVia [] (nodePart b g)) (r .count) (rowIn (P .merged .words))
-    W = P .merged .drawn .walked
+    -- the union's node rows
+    U : Union jointShift (rowsIn (nodePart a h)) (tableVia [] (nodePart a h)) (rowsIn (nodePart b g)) (tableVia [] (nodePart b g))
+    U = unites jointShift _ _ _ _ (omega arith) (first-table jointShift _ _ nodes-beside [] (nodes-up a h A)) (second-table jointShift _ _ nodes-beside [] (nodes-up b g B))
+
+    W : Walked (rowsIn (nodePart a h)) (keyVia [] (nodePart a h)) (rowsIn (nodePart b g)) (keyVia [] (nodePart b g)) (rowsIn (nodePart a h)) (rowsIn (nodePart b g)) (U .rows) (λ u. U .row u .key)
+    W = U .merged .walked
 
     pub first-rises : (x y : ℕ) → x < y → y < h .nodes → first-to x < first-to y
-    first-rises x y l d = let n = node-rows a h A in places-rise _ _ 1 at _ _ (W .first) (W .rise) (nodes-up a h A) x y l (omega arith)
+    first-rises x y l d = let n = node-rows a h A in places-rise _ _ at _ _ (W .first) (W .rise) (nodes-up a h A) x y l (omega arith)
 
     pub second-rises : (x y : ℕ) → x < y → y < g .nodes → second-to x < second-to y
-    second-rises x y l d = let n = node-rows b g B in places-rise _ _ 2 at _ _ (W .second) (W .rise) (nodes-up b g B) x y l (omega arith)
+    second-rises x y l d = let n = node-rows b g B in places-rise _ _ at _ _ (W .second) (W .rise) (nodes-up b g B) x y l (omega arith)
 
     pub edges-mergeable : Mergeable (r .first) (edgePart a h) (r .second) (edgePart b g)
     edges-mergeable =

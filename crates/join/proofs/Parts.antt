@@ -2,13 +2,11 @@
 -- Assumes nothing.
 use Prim.Native.Nat.{ℕ, _+_, _-_, _*_, _<_, _≤_}
 use mathlib.Core.Path.{_≡_, refl, sym, ap, ap₂, subst, _∙_}
-use mathlib.Core.Bool.{true}
 use mathlib.Core.List.{List, []}
 use native.Mathlib.Omega.{arith}
 use lib.ListN.{length, drop, length-drop}
 use lib.Seq.{getD-take, getD-drop, length-take-le}
 use Rattle.tables.specs.Key.{belowKey}
-use Rattle.tables.specs.Marks.{marked}
 use Rattle.sheet.specs.declared.Header.{Header}
 use Rattle.sheet.specs.Limits.{maxNodes}
 use Rattle.sheet.specs.Rows.{word, headerOf, nodeAt, edgeAt, edgeTable, nodeKeyAt}
@@ -16,7 +14,8 @@ use Rattle.sheet.specs.Accepted.{HeaderFits, Rising, WellFormed, MarksFit}
 use Rattle.sheet.proofs.Refusing.{from-on}
 use Rattle.carry.specs.Carried.{mappedKey}
 use Rattle.carry.proofs.Carrying.{mapped-below}
-use Rattle.merge.specs.Lent.{through, rowsIn, rowVia, keyVia}
+use Rattle.meaning.specs.Join.{officesOf}
+use Rattle.merge.specs.Lent.{through, rowsIn, rowVia, keyVia, marksIn}
 use Rattle.join.specs.Laid.{Joinable, nodePart, edgePart}
 
 module _ (s : List ℕ) (h : Header) (J : Joinable s h) where
@@ -39,18 +38,8 @@ module _ (s : List ℕ) (h : Header) (J : Joinable s h) where
   pub same-edges : headerOf s .edges ≡ h .edges
   same-edges = ap (λ (x : Header). x .edges) (sym (J .head))
 
-  -- one office, so each row bears its mark
-  marks-one : (m : ℕ) → MarksFit (h .offices) m → marked m 1 ≡ true
-  marks-one m f =
-      let g : MarksFit 1 m = subst (λ (o : ℕ). MarksFit o m) (J .one) f in
-      let e : m ≡ 1 = omega (arith, g .some, g .high) in
-      rw e refl
-
-  pub node-bears : (i : ℕ) → i < headerOf s .nodes → marked (nodeAt s i .offices) 1 ≡ true
-  node-bears i l = marks-one _ (formed .nodes .fit i (omega (arith, same-nodes)) .marks)
-
-  pub edge-bears : (j : ℕ) → j < headerOf s .edges → marked (edgeAt (edgeTable s) j .offices) 1 ≡ true
-  edge-bears j l = marks-one _ (formed .edges .fit j (omega (arith, same-edges)) .marks)
+  pub one-office : officesOf s ≡ 1
+  one-office = ap (λ (x : Header). x .offices) (sym (J .head)) ∙ J .one
 
   -- ---- node rows
 
@@ -80,6 +69,15 @@ module _ (s : List ℕ) (h : Header) (J : Joinable s h) where
       let a : word (nodePart s h) (4 * i) ≡ word s (6 + 4 * i) = ap (word (nodePart s h)) (sym e) ∙ node-word i 0 l (omega arith) ∙ ap (word s) f in
       rw (a, node-word i 1 l (omega arith), node-word i 2 l (omega arith)) refl
 
+  pub node-marks : (i : ℕ) → i < h .nodes → marksIn (nodePart s h) i ≡ nodeAt s i .offices
+  unfolding edgeAt nodeAt
+  node-marks i l = node-word i 3 l (omega arith)
+
+  pub node-fit : (i : ℕ) → i < rowsIn (nodePart s h) → MarksFit (officesOf s) (marksIn (nodePart s h) i)
+  node-fit i l =
+      let n = node-rows in
+      subst (MarksFit (officesOf s)) (sym (node-marks i (omega arith))) (J .accepted .nodes .fit i (omega (arith, same-nodes)) .marks)
+
   pub nodes-up : Rising (keyVia [] (nodePart s h)) (rowsIn (nodePart s h))
   nodes-up i l =
       let n = node-rows in
@@ -96,6 +94,12 @@ module _ (s : List ℕ) (h : Header) (J : Joinable s h) where
       let o = fits .edges-from in
       let l : length (edgePart s h) ≡ 4 * h .edges = ap length (from-on s (h .edgeoffset)) ∙ omega (arith, length-drop (h .edgeoffset) s) in
       omega arith
+
+  pub edge-marks : (j : ℕ) → marksIn (edgePart s h) j ≡ edgeAt (edgeTable s) j .offices
+  edge-marks j = ap (λ (t : List ℕ). marksIn t j) edge-table
+
+  pub edge-fit : (j : ℕ) → j < rowsIn (edgePart s h) → MarksFit (officesOf s) (marksIn (edgePart s h) j)
+  edge-fit j l = subst (MarksFit (officesOf s)) (sym (edge-marks j)) (J .accepted .edges .fit j (omega (arith, edge-rows, same-edges)) .marks)
 
   module _ (map : List ℕ) (m : ℕ → ℕ) (is : (x : ℕ) → x < h .nodes → through map x ≡ m x) where
     pub edge-key : (j : ℕ) → j < h .edges → keyVia map (edgePart s h) j ≡ mappedKey m (edgeAt (edgeTable s) j)

@@ -11,6 +11,14 @@ use Rattle.sheet.specs.Accepted.{Accepted}
 use Rattle.carry.specs.Stored.{headerSix}
 use Rattle.merge.specs.Lent.{rowsIn, Drawn}
 
+-- the offices of two sheets that have one each
+abbrev pub jointOffices : ℕ
+jointOffices = 2
+
+-- what the second sheet's marks are taken times: 2 to the first's office count
+abbrev pub jointShift : ℕ
+jointShift = 2
+
 -- a sheet that can be joined, and its header
 pub record Joinable (s : List ℕ) (h : Header) : Type 0 where
   pub accepted : Accepted s
@@ -29,6 +37,6 @@ edgePart s h = take (length s - h .edgeoffset) (drop (h .edgeoffset) s)
 pub record Laid (na nb ma ea mb eb : List ℕ) (n e : ℕ) (out out′ : List ℕ) : Type 0 where
   pub nodes : List ℕ
   pub edges : List ℕ
-  pub nodes-drawn : Drawn [] na [] nb (rowsIn na) (rowsIn nb) n nodes
-  pub edges-drawn : Drawn ma ea mb eb (rowsIn ea) (rowsIn eb) e edges
-  pub holds : out′ ≡ (headerSix 2 n e ++ nodes ++ edges) ++ drop (sheetWords n e) out
+  pub nodes-drawn : Drawn jointShift [] na [] nb (rowsIn na) (rowsIn nb) n nodes
+  pub edges-drawn : Drawn jointShift ma ea mb eb (rowsIn ea) (rowsIn eb) e edges
+  pub holds : out′ ≡ (headerSix jointOffices n e ++ nodes ++ edges) ++ drop (sheetWords n e) out

@@ -6,10 +6,15 @@ ghost use mathlib.Core.List.{[]};
 ghost use Prim.Native.Nat.{_+_, _-_, _*_, _<_, _≤_};
 ghost use lib.ListN.{length};
 ghost use Rattle.sheet.specs.Limits.{maxNodes, maxEdges, sheetWords};
-ghost use Rattle.merge.specs.Merged.{shared};
-ghost use Rattle.merge.specs.Lent.{rowsIn, keyVia, Mergeable};
+ghost use Rattle.merge.specs.Lent.{Mergeable, SideBySide, Counts};
 ghost use Rattle.join.specs.Joined.{tooMuch, sheetsFault, unionFault, joinFault, refusedBy, Joins};
-ghost use Rattle.join.specs.Laid.{Joinable, Laid};
+ghost use Rattle.join.specs.Laid.{jointShift, Joinable, Laid};
+
+// The offices of two sheets that have one each.
+const OFFICES: u32 = 2;
+
+// What the second sheet's marks are taken times: 2 to the first's office count.
+const SHIFT: u32 = 2;
 
 // A refusal's number and place, or number 0 with the joint sheet's words, its rows, and how many of them both sheets have.
 #[repr(C)]
@@ -102,16 +107,24 @@ fn write_joint(
     e: usize,
     out: &mut [u32],
 )
-    requires { ⌜ Mergeable [] (now na) [] (now nb) × (n + shared (rowsIn (now na)) (keyVia [] (now na)) (rowsIn (now nb)) (keyVia [] (now nb)) ≡ rowsIn (now na) + rowsIn (now nb)) × (n ≤ maxNodes) ⌝ }
-    requires { ⌜ Mergeable (now ma) (now ea) (now mb) (now eb) × (e + shared (rowsIn (now ea)) (keyVia (now ma) (now ea)) (rowsIn (now eb)) (keyVia (now mb) (now eb)) ≡ rowsIn (now ea) + rowsIn (now eb)) × (e ≤ maxEdges) ⌝ }
+    requires { ⌜ Mergeable [] (now na) [] (now nb) × SideBySide jointShift (now na) (now nb) × Counts [] (now na) [] (now nb) n × (n ≤ maxNodes) ⌝ }
+    requires { ⌜ Mergeable (now ma) (now ea) (now mb) (now eb) × SideBySide jointShift (now ea) (now eb) × Counts (now ma) (now ea) (now mb) (now eb) e × (e ≤ maxEdges) ⌝ }
     requires { ⌜ sheetWords n e ≤ length (now out) ⌝ }
     ensures { λ _. ⌜ Laid (now (na .entry)) (now (nb .entry)) (now (ma .entry)) (now (ea .entry)) (now (mb .entry)) (now (eb .entry)) n e (now (out .entry)) (now (out .exit)) ⌝ }
 {
-    carry::put_header(out, 2, n as u32, e as u32);
+    carry::put_header(out, OFFICES, n as u32, e as u32);
     let none = &na[0..0];
-    merge::write_rows(na, none, nb, none, &mut out[sheet::HEADER_WORDS..], n);
+    merge::write_rows(
+        na,
+        none,
+        nb,
+        none,
+        SHIFT,
+        &mut out[sheet::HEADER_WORDS..],
+        n,
+    );
     let from = sheet::HEADER_WORDS + sheet::NODE_WORDS * n;
-    merge::write_rows(ea, ma, eb, mb, &mut out[from..], e);
+    merge::write_rows(ea, ma, eb, mb, SHIFT, &mut out[from..], e);
 }
 
 // The joint sheet's words and rows, and how many of these both sheets have: what is missing to the two counts added.

@@ -91,10 +91,10 @@ module _ (s p q : List ℕ) (acc : Accepted s) (two : officesOf s ≡ 2) (x : Is
   parts = parts-join s p q 1 1 acc two x y
 
   nodes : headerOf s .nodes + sharedNodes p q ≡ headerOf p .nodes + headerOf q .nodes
-  nodes = nodes-counted p q s (x .accepted) (y .accepted) parts (x .offices) (y .offices)
+  nodes = nodes-counted p q s (x .accepted) (y .accepted) parts
 
   edges : headerOf s .edges + sharedEdges p q ≡ headerOf p .edges + headerOf q .edges
-  edges = edges-counted p q s (x .accepted) (y .accepted) parts (x .offices) (y .offices)
+  edges = edges-counted p q s (x .accepted) (y .accepted) parts
 
   sheets-pass : record { number = 0; sheet = 0; row = 0 } ≡ sheetsFault p q
   sheets-pass =
@@ -106,7 +106,7 @@ module _ (s p q : List ℕ) (acc : Accepted s) (two : officesOf s ≡ 2) (x : Is
       let h = acc .nodes .header in
       union-passes p q (headerOf s .nodes) (headerOf s .edges) (length out)
       (in-none (headerOf s .nodes) (headerOf s .edges) (length out) (h .nodes) (h .edges) (omega (arith, h .whole, room)))
-      (nodes-union p q s (x .accepted) (y .accepted) parts (x .offices) (y .offices)) (edges-union p q s (x .accepted) (y .accepted) parts (x .offices) (y .offices))
+      (nodes-union p q s (x .accepted) (y .accepted) parts) (edges-union p q s (x .accepted) (y .accepted) parts)
 
   -- joining the two parts of a sheet of two offices gives it again, word for word
   pub joins-again : {r : Joined} {out′ : List ℕ} → Joining p q out r out′ → (r .number ≡ 0) × (out′ ≡ s ++ drop (length s) out)

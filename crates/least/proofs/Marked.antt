@@ -7,6 +7,7 @@ use mathlib.Core.List.{List}
 use lib.Dec.{eqb}
 use lib.ListN.{length, getD}
 use borrow.Author.Tests.{eqb-true, eq-eqb}
+use Rattle.tables.specs.Count.{numberOf}
 use Rattle.sheet.specs.declared.Header.{Header}
 use Rattle.sheet.specs.declared.Node.{Node}
 use Rattle.sheet.specs.Limits.{maxNodes}
@@ -15,7 +16,6 @@ use Rattle.paths.specs.Steps.{Layers, Starts}
 use Rattle.paths.proofs.Tests.{and-left, and-right, both}
 use Rattle.walk.specs.declared.Walk.{Walk}
 use Rattle.walk.specs.Arcs.{Others}
-use Rattle.ask.specs.Listed.{numberOf}
 use Rattle.reach.specs.Reaching.{LeadsTo, ByDeed}
 use Rattle.least.specs.Least.{starting, DeedStarts, RowsByDeed}
 use Rattle.reach.proofs.Marking.{some-number, number-some, starts-tell}

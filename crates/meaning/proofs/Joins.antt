@@ -10,7 +10,7 @@ use lib.ListN.{length, getD, length-append, List·getD-append}
 use lib.Seq.{getD-append-add}
 use Rattle.tables.specs.Key.{Key}
 use Rattle.tables.specs.Office.{View, Same}
-use Rattle.tables.proofs.Alike.{same-view, same-self, same-back, same-through}
+use Rattle.tables.proofs.Alike.{same-view, same-back, same-through}
 use Rattle.sheet.specs.Rows.{headerOf}
 use Rattle.sheet.specs.Accepted.{Accepted}
 use Rattle.sheet.specs.Named.{seenAt}

@@ -10,6 +10,7 @@ use lib.Dec.{eqb}
 use lib.ListN.{length, getD, set, length-set}
 use lib.Seq.{getD-set-same, getD-set-other}
 use borrow.Author.Tests.{eq-eqb, ne-eqb}
+use Rattle.tables.specs.Count.{numberOf}
 use Rattle.sheet.specs.declared.Header.{Header}
 use Rattle.sheet.specs.Limits.{maxNodes}
 use Rattle.paths.specs.Steps.{Reached, start, then, Layers, Starts}
@@ -19,7 +20,6 @@ use Rattle.walk.specs.declared.Walk.{Walk}
 use Rattle.walk.specs.Arcs.{Steps, Others}
 use Rattle.walk.specs.Outset.{Blank}
 use Rattle.walk.proofs.Visiting.{whole-layers}
-use Rattle.ask.specs.Listed.{numberOf}
 use Rattle.reach.specs.Reaching.{Tells, LeadsTo, Started, ReachedFrom}
 
 -- a test that a number is some

@@ -32,6 +32,14 @@ module _ (w d s : List ℕ) (i : ℕ) (at : w ≡ front d s i) where
   pub front-done : length s ≤ i → i ≤ length s → w ≡ s ++ drop (length s) d
   front-done g h = let e : i ≡ length s = omega arith in rw (at, e, take-all (length s) s (omega arith))
 
+-- four stores, one after the other, are a run
+pub four-stores : (l : List ℕ) (at a b c d : ℕ) → set (set (set (set l at a) (at + 1) b) (at + 2) c) (at + 3) d ≡ sets l at (a ∷ b ∷ c ∷ d ∷ [])
+four-stores l at a b c d =
+    let e : at + 1 ≡ suc at = omega arith in
+    let f : at + 2 ≡ suc (suc at) = omega arith in
+    let g : at + 3 ≡ suc (suc (suc at)) = omega arith in
+    rw (e, f, g) refl
+
 -- ---- the one form of every writer
 
 pub short-fits : (room size : ℕ) → size ≤ room → short room size ≡ none

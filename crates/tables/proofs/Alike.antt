@@ -96,9 +96,6 @@ alike top bot low (x ∷ a) (y ∷ b) r q h = go (lies (x .key) (y .key)) (λ s 
 pub same-view : (g h : View) → Same g h → g ≡ h
 same-view g h e = λ i. record { node = λ k. e .nodes k i; edge = λ k. e .edges k i }
 
-pub same-self : (g : View) → Same g g
-same-self g = record { nodes = λ k. refl; edges = λ k. refl }
-
 pub same-back : {g h : View} → Same g h → Same h g
 same-back e = record { nodes = λ k. sym (e .nodes k); edges = λ k. sym (e .edges k) }
 

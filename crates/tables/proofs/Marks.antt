@@ -7,7 +7,7 @@ use native.Mathlib.Omega.{arith}
 use lib.Dec.{eqb}
 use native.Mathlib.Decide.{decLt}
 use native.Mathlib.Nat.{add-mul-div-left, add-mul-mod-self-left, div-eq-of-lt, mul-assoc, mul-comm, mul-suc, mul-le-mul-left, pow-suc, zero-add}
-use lib.Pow.{shr-shr, shr-le, pow-add, pow-pos}
+use lib.Pow.{shr-shr, shr-le, pow-add, pow-mono, pow-pos}
 use native.Mathlib.Numerals.{one-add}
 use lib.Bits.{bitAnd, and-shr, and-mod, and-le-r, and-step, and-zero-l}
 use borrow.Author.Tests.{eqb-true, eqb-false, eq-eqb}
@@ -84,9 +84,52 @@ marks-same (suc n) m p a b h =
             even zero (suc zero) g h x y = absurd (y refl)
             even zero (suc (suc v)) g h x y = absurd (omega (arith, h))
 
+-- a sum of marks of n offices that is not 0 bears one of them
+pub record Office (n m : ℕ) : Type 0 where
+  pub index : ℕ
+  pub inside : index < n
+  pub bears : marked m (suc index) ≡ true
+
+pub some-office : (n m : ℕ) → 0 < m → m < 2 ^ n → Office n m
+some-office zero m a b = absurd (omega arith)
+some-office (suc n) m a b = go (decLt 0 (m % 2)) (some-office n (m / 2))
+  where
+    go : Dec (0 < m % 2) → (0 < m / 2 → m / 2 < 2 ^ n → Office n (m / 2)) → Office (suc n) m
+    go (yes l) more = let one : m / 1 % 2 ≡ 1 = omega arith in record { index = 0; inside = omega arith; bears = eq-eqb (m / 1 % 2) 1 one }
+    go (no l) more =
+        let o = more (omega arith) (omega arith) in
+        record { index = suc (o .index); inside = omega (arith, o .inside); bears = half-marked m (o .index) ∙ o .bears }
+
+-- an office past the count is not marked
+none-past : (n m i : ℕ) → m < 2 ^ n → n ≤ i → marked m (suc i) ≡ true → ⊥
+none-past n m i l g e =
+    let p : 2 ^ n ≤ 2 ^ i = pow-mono g in
+    let z : m / 2 ^ i ≡ 0 = div-eq-of-lt (omega arith) in
+    true≢false (sym e ∙ ap (λ (x : ℕ). eqb (x % 2) 1) z)
+
+-- so a sum of marks of n offices lies within another where each of the n does
+pub fits-within : (n m p : ℕ) → m < 2 ^ n → ((i : ℕ) → i < n → marked m (suc i) ≡ true → marked p (suc i) ≡ true) → within m p ≡ true
+fits-within n m p l h = marked-within m p go
+  where
+    go : (k : ℕ) → marked m k ≡ true → marked p k ≡ true
+    go zero e = absurd (true≢false (sym e))
+    go (suc i) e = pick (decLt i n)
+      where
+        pick : Dec (i < n) → marked p (suc i) ≡ true
+        pick (yes d) = h i d e
+        pick (no d) = absurd (none-past n m i l (omega arith) e)
+
 -- ---- marks put side by side: the second sum's offices are counted after the first's n
 
-marked-first : (n x y i : ℕ) → i < n → marked (x + 2 ^ n * y) (suc i) ≡ marked x (suc i)
+-- an office of n + m is one of the first n or one of the m after them
+pub either-run : (P : ℕ → Type 0) (n m : ℕ) → ((i : ℕ) → i < n → P i) → ((i : ℕ) → i < m → P (n + i)) → (i : ℕ) → i < n + m → P i
+either-run P n m f g i l = go (decLt i n)
+  where
+    go : Dec (i < n) → P i
+    go (yes h) = f i h
+    go (no h) = let e : n + (i - n) ≡ i = omega arith in subst P e (g (i - n) (omega arith))
+
+pub marked-first : (n x y i : ℕ) → i < n → marked (x + 2 ^ n * y) (suc i) ≡ marked x (suc i)
 marked-first n x y i h =
     let e : n ≡ i + suc (n - i - 1) = omega arith in
     let p : 2 ^ n ≡ 2 ^ i * (2 ^ (n - i - 1) * 2) = ap (λ (k : ℕ). 2 ^ k) e ∙ pow-add 2 i (suc (n - i - 1)) ∙ ap (λ (k : ℕ). 2 ^ i * k) (pow-suc 2 (n - i - 1)) in
@@ -96,13 +139,13 @@ marked-first n x y i h =
     let r : (x / 2 ^ i + 2 * (2 ^ (n - i - 1) * y)) % 2 ≡ x / 2 ^ i % 2 = add-mul-mod-self-left (x / 2 ^ i) 2 (2 ^ (n - i - 1) * y) in
     ap (λ (k : ℕ). eqb (k % 2) 1) (d ∙ ap (λ (k : ℕ). x / 2 ^ i + k) m) ∙ ap (λ (k : ℕ). eqb k 1) r
 
-marked-second : (n x y i : ℕ) → x < 2 ^ n → marked (x + 2 ^ n * y) (suc (n + i)) ≡ marked y (suc i)
+pub marked-second : (n x y i : ℕ) → x < 2 ^ n → marked (x + 2 ^ n * y) (suc (n + i)) ≡ marked y (suc i)
 marked-second n x y i h =
     let z : x / 2 ^ n ≡ 0 = div-eq-of-lt h in
     let d : (x + 2 ^ n * y) / 2 ^ n ≡ y = add-mul-div-left x y (pow-pos n) ∙ ap (λ (k : ℕ). k + y) z ∙ zero-add y in
     ap (λ (k : ℕ). eqb (k % 2) 1) (sym (shr-shr (x + 2 ^ n * y) n i) ∙ ap (λ (k : ℕ). k / 2 ^ i) d)
 
-both-fit : (n m x y : ℕ) → x < 2 ^ n → y < 2 ^ m → x + 2 ^ n * y < 2 ^ (n + m)
+pub both-fit : (n m x y : ℕ) → x < 2 ^ n → y < 2 ^ m → x + 2 ^ n * y < 2 ^ (n + m)
 both-fit n m x y g h =
     let p : 2 ^ (n + m) ≡ 2 ^ n * 2 ^ m = pow-add 2 n m in
     let q : 2 ^ n * suc y ≤ 2 ^ n * 2 ^ m = mul-le-mul-left (2 ^ n) h in
@@ -111,10 +154,8 @@ both-fit n m x y g h =
 
 pub marks-joined : (n m x y z : ℕ) → x < 2 ^ n → y < 2 ^ m → z < 2 ^ (n + m) → ((i : ℕ) → i < n → marked z (suc i) ≡ marked x (suc i))
     → ((i : ℕ) → i < m → marked z (suc (n + i)) ≡ marked y (suc i)) → z ≡ x + 2 ^ n * y
-marks-joined n m x y z a b c f g = marks-same (n + m) z (x + 2 ^ n * y) c (both-fit n m x y a b) (λ i l. go i l (decLt i n))
-  where
-    go : (i : ℕ) → i < n + m → Dec (i < n) → marked z (suc i) ≡ marked (x + 2 ^ n * y) (suc i)
-    go i l (yes h) = f i h ∙ sym (marked-first n x y i h)
-    go i l (no h) =
-        let e : n + (i - n) ≡ i = omega arith in
-        subst (λ (k : ℕ). marked z (suc k) ≡ marked (x + 2 ^ n * y) (suc k)) e (g (i - n) (omega arith) ∙ sym (marked-second n x y (i - n) a))
+marks-joined n m x y z a b c f g =
+    marks-same (n + m) z (x + 2 ^ n * y) c (both-fit n m x y a b)
+    (either-run (λ i. marked z (suc i) ≡ marked (x + 2 ^ n * y) (suc i)) n m
+    (λ i l. f i l ∙ sym (marked-first n x y i l))
+    (λ i l. g i l ∙ sym (marked-second n x y i a)))

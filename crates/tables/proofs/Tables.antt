@@ -5,6 +5,7 @@ use mathlib.Core.Path.{_≡_, refl, sym, ap, _∙_}
 use mathlib.Core.Bool.{Bool, true, false, cond, true≢false}
 use mathlib.Core.List.{List, [], _∷_}
 use native.Mathlib.Omega.{arith}
+use native.Mathlib.Decide.{decLt}
 use native.Mathlib.Nat.{add-zero, zero-add}
 use Rattle.tables.specs.Key.{Key, sameKey, belowKey}
 use Rattle.tables.specs.Marks.{marked}
@@ -26,7 +27,7 @@ marks-none (suc n) f k h =
     rw (ne-same (f 0 .key) k (h 0 (omega arith))) (zero-add (marksAt (rowsOf n (λ i. f (suc i))) k) ∙ marks-none n (λ i. f (suc i)) k (λ i l. h (suc i) (omega arith)))
 
 -- where rows have keys of their own, the marks at a row's key are the row's
-pub marks-row : (n : ℕ) (f : ℕ → Row) → ((i j : ℕ) → i < n → j < n → f i .key ≡ f j .key → i ≡ j)
+marks-row : (n : ℕ) (f : ℕ → Row) → ((i j : ℕ) → i < n → j < n → f i .key ≡ f j .key → i ≡ j)
     → (i : ℕ) → i < n → marksAt (rowsOf n f) (f i .key) ≡ f i .marks
 unfolding rowsOf marksAt
 marks-row zero f own i l = absurd (omega (arith, l))
@@ -39,6 +40,11 @@ marks-row (suc n) f own (suc i) l =
     (zero-add (marksAt (rowsOf n (λ j. f (suc j))) (f (suc i) .key))
     ∙ marks-row n (λ j. f (suc j)) (λ a b g h e. omega (arith, own (suc a) (suc b) (omega arith) (omega arith) e)) i (omega (arith, l)))
 
+-- and so they are at any key that names the row
+pub marks-named : (n : ℕ) (f : ℕ → Row) → ((i j : ℕ) → i < n → j < n → f i .key ≡ f j .key → i ≡ j)
+    → (k : Key) (i : ℕ) → i < n → f i .key ≡ k → marksAt (rowsOf n f) k ≡ f i .marks
+marks-named n f own k i l e = ap (marksAt (rowsOf n f)) (sym e) ∙ marks-row n f own i l
+
 -- a key that has marks has a row
 pub row-of : (n : ℕ) (f : ℕ → Row) (k : Key) → 0 < marksAt (rowsOf n f) k → RowAt n f k
 unfolding rowsOf marksAt
@@ -50,6 +56,16 @@ row-of (suc n) f k h = go (sameKey (f 0 .key) k) refl (row-of n (λ i. f (suc i)
     go false e more =
         let later = more (rw zero-add at (rw e at h)) in
         record { row = suc (later .row); inside = omega (arith, later .inside); names = later .names }
+
+-- where rows have keys of their own, the marks at a key are a row's or none, so they are below what the rows' are below
+pub marks-low : (top n : ℕ) (f : ℕ → Row) → ((i j : ℕ) → i < n → j < n → f i .key ≡ f j .key → i ≡ j) → 0 < top → ((i : ℕ) → i < n → f i .marks < top) → (k : Key) → marksAt (rowsOf n f) k < top
+marks-low top n f own some low k = go (decLt 0 (marksAt (rowsOf n f) k))
+  where
+    go : Dec (0 < marksAt (rowsOf n f) k) → marksAt (rowsOf n f) k < top
+    go (yes h) =
+        let at = row-of n f k h in
+        omega (arith, marks-named n f own k (at .row) (at .inside) (at .names), low (at .row) (at .inside))
+    go (no h) = omega arith
 
 -- rows that rise, with marks of offices below the top, are a rising table
 pub rows-rise : (top : ℕ) (low : Key) (n : ℕ) (f : ℕ → Row) → (0 < n → belowKey low (f 0 .key) ≡ true)
@@ -79,10 +95,8 @@ module _ (n : ℕ) (f : ℕ → Row) (own : (i j : ℕ) → i < n → j < n → 
   pub seen-row : (k : Key) → marked (marksAt (rowsOf n f) k) office ≡ true → MarkedRow n f office k
   seen-row k e =
       let at = row-of n f k (marked-some (marksAt (rowsOf n f) k) office e) in
-      let here : marksAt (rowsOf n f) k ≡ f (at .row) .marks = ap (marksAt (rowsOf n f)) (sym (at .names)) ∙ marks-row n f own (at .row) (at .inside) in
+      let here = marks-named n f own k (at .row) (at .inside) (at .names) in
       record { row = at .row; inside = at .inside; names = at .names; bears = ap (λ (m : ℕ). marked m office) (sym here) ∙ e }
 
   pub row-seen : (k : Key) → MarkedRow n f office k → marked (marksAt (rowsOf n f) k) office ≡ true
-  row-seen k r =
-      let here : marksAt (rowsOf n f) k ≡ f (r .row) .marks = ap (marksAt (rowsOf n f)) (sym (r .names)) ∙ marks-row n f own (r .row) (r .inside) in
-      ap (λ (m : ℕ). marked m office) here ∙ r .bears
+  row-seen k r = ap (λ (m : ℕ). marked m office) (marks-named n f own k (r .row) (r .inside) (r .names)) ∙ r .bears

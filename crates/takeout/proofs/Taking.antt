@@ -7,9 +7,11 @@ use mathlib.Core.List.{List, _++_, append-assoc}
 use native.Mathlib.Omega.{arith}
 use lib.ListN.{length, drop, length-append, List·getD-append}
 use lib.Seq.{getD-append-add, drop-at}
+use Rattle.tables.specs.Count.{howMany}
 use Rattle.tables.specs.Key.{belowKey}
 use Rattle.tables.specs.Marks.{marked}
 use Rattle.tables.specs.Office.{Same}
+use Rattle.tables.proofs.Counts.{Passing, many-strict, many-order, many-one, many-most, passing}
 use Rattle.tables.proofs.Keys.{rises}
 use Rattle.tables.proofs.Marks.{within-marked}
 use Rattle.sheet.specs.declared.Header.{Header}
@@ -23,9 +25,8 @@ use Rattle.carry.specs.Carried.{From, NodesCarried, EdgesCarried}
 use Rattle.carry.specs.Stored.{headerSix, nodeFour, edgeFour}
 use Rattle.carry.proofs.Carrying.{carried, mapped-below}
 use Rattle.carry.proofs.Storing.{node-is, edge-is}
-use Rattle.takeout.specs.Kept.{keptBelow}
 use Rattle.takeout.specs.Taken.{nodeKept, edgeKept, ownNode, ownEdge, takenNode, takenEdge, takenNodes, takenEdges, nodesTaken, edgesTaken, takenSheet}
-use Rattle.takeout.proofs.Counting.{KeptRow, below-strict, below-order, below-one, below-most, kept-row, words-long, word-kept}
+use Rattle.takeout.proofs.Counting.{words-long, word-kept}
 
 -- each row that is taken out has four words
 pub node-four : (s : List ℕ) (i : ℕ) → length (takenNode s i) ≡ 4
@@ -41,12 +42,12 @@ pub head-long : (n e : ℕ) → length (headerSix 1 n e) ≡ 6
 unfolding headerSix
 head-long n e = refl
 
-pub nodes-long : (s : List ℕ) (office rows : ℕ) → length (takenNodes s office rows) ≡ 4 * keptBelow (nodeKept s office) rows
+pub nodes-long : (s : List ℕ) (office rows : ℕ) → length (takenNodes s office rows) ≡ 4 * howMany (nodeKept s office) rows
 nodes-long s office rows = words-long (nodeKept s office) (takenNode s) (node-four s) rows
 
-edges-long : (s t : List ℕ) (office rows : ℕ) → length (takenEdges s t office rows) ≡ 4 * keptBelow (edgeKept t office) rows
+edges-long : (s t : List ℕ) (office rows : ℕ) → length (takenEdges s t office rows) ≡ 4 * howMany (edgeKept t office) rows
 edges-long s t office rows =
-    let map = keptBelow (nodeKept s office) in
+    let map = howMany (nodeKept s office) in
     words-long (edgeKept t office) (takenEdge map t) (edge-four map t) rows
 
 module _ (s : List ℕ) (office : ℕ) where
@@ -69,10 +70,10 @@ module _ (s : List ℕ) (office : ℕ) where
   head = headerSix 1 n e
 
   abbrev map : ℕ → ℕ
-  map = keptBelow (nodeKept s office)
+  map = howMany (nodeKept s office)
 
   abbrev edge-map : ℕ → ℕ
-  edge-map = keptBelow (edgeKept (edgeTable s) office)
+  edge-map = howMany (edgeKept (edgeTable s) office)
 
   abbrev header : Header
   header = record { form = 1; offices = 1; nodes = n; edges = e; nodeoffset = 6; edgeoffset = 6 + 4 * n }
@@ -100,7 +101,7 @@ module _ (s : List ℕ) (office : ℕ) where
     where
       at : (c : ℕ) → c < 4 → word t (6 + 4 * map i + c) ≡ word (nodeFour (ownNode (nodeAt s i))) c
       at c g =
-          let below = below-strict (nodeKept s office) i (headerOf s .nodes) h k in
+          let below = many-strict (nodeKept s office) i (headerOf s .nodes) h k in
           let d : 6 + 4 * map i + c ≡ length head + (4 * map i + c) = omega (arith, head-long n e) in
           ap (word t) d ∙ getD-append-add head (nodes ++ edges) (4 * map i + c) 0
           ∙ List·getD-append nodes edges 0 (4 * map i + c) (omega (arith, nodes-long s office (headerOf s .nodes)))
@@ -114,17 +115,17 @@ module _ (s : List ℕ) (office : ℕ) where
       (λ c g. word-kept (edgeKept (edgeTable s) office) (takenEdge map (edgeTable s)) (edge-four map (edgeTable s)) (headerOf s .edges) j c h k g)
 
   -- and each row that it has is one of those
-  node-of : (u : ℕ) (r : KeptRow (nodeKept s office) (headerOf s .nodes) u) → nodeAt t u ≡ ownNode (nodeAt s (r .row))
-  node-of u r = ap (nodeAt t) (sym (r .at)) ∙ node-at (r .row) (r .inside) (r .kept)
+  node-of : (u : ℕ) (r : Passing (nodeKept s office) (headerOf s .nodes) u) → nodeAt t u ≡ ownNode (nodeAt s (r .row))
+  node-of u r = ap (nodeAt t) (sym (r .at)) ∙ node-at (r .row) (r .inside) (r .passes)
 
-  edge-of : (v : ℕ) (r : KeptRow (edgeKept (edgeTable s) office) (headerOf s .edges) v) → edgeAt edges v ≡ ownEdge map (edgeAt (edgeTable s) (r .row))
-  edge-of v r = ap (edgeAt edges) (sym (r .at)) ∙ edge-at (r .row) (r .inside) (r .kept)
+  edge-of : (v : ℕ) (r : Passing (edgeKept (edgeTable s) office) (headerOf s .edges) v) → edgeAt edges v ≡ ownEdge map (edgeAt (edgeTable s) (r .row))
+  edge-of v r = ap (edgeAt edges) (sym (r .at)) ∙ edge-at (r .row) (r .inside) (r .passes)
 
-  node-row : (u : ℕ) → u < n → KeptRow (nodeKept s office) (headerOf s .nodes) u
-  node-row u h = kept-row (nodeKept s office) (headerOf s .nodes) u h
+  node-row : (u : ℕ) → u < n → Passing (nodeKept s office) (headerOf s .nodes) u
+  node-row u h = passing (nodeKept s office) (headerOf s .nodes) u h
 
-  edge-row : (v : ℕ) → v < e → KeptRow (edgeKept (edgeTable s) office) (headerOf s .edges) v
-  edge-row v h = kept-row (edgeKept (edgeTable s) office) (headerOf s .edges) v h
+  edge-row : (v : ℕ) → v < e → Passing (edgeKept (edgeTable s) office) (headerOf s .edges) v
+  edge-row v h = passing (edgeKept (edgeTable s) office) (headerOf s .edges) v h
 
   -- ---- of an accepted sheet it is accepted
 
@@ -139,7 +140,7 @@ module _ (s : List ℕ) (office : ℕ) where
         let f = w .nodes .fit (r .row) (r .inside) in
         rw (node-of u r) (record { class-low = f .class-low; class-high = f .class-high; number = f .number; variant = f .variant; marks = own-marks })
 
-    node-key : (u : ℕ) (r : KeptRow (nodeKept s office) (headerOf s .nodes) u) → nodeKeyAt t u ≡ nodeKeyAt s (r .row)
+    node-key : (u : ℕ) (r : Passing (nodeKept s office) (headerOf s .nodes) u) → nodeKeyAt t u ≡ nodeKeyAt s (r .row)
     unfolding ownNode
     node-key u r = ap nodeKey (node-of u r)
 
@@ -147,7 +148,7 @@ module _ (s : List ℕ) (office : ℕ) where
     nodes-rise u h =
         let a = node-row u (omega arith) in
         let b = node-row (u + 1) h in
-        let l = below-order (nodeKept s office) (a .row) (b .row) (omega (arith, a .at, b .at)) in
+        let l = many-order (nodeKept s office) (a .row) (b .row) (omega (arith, a .at, b .at)) in
         ap₂ belowKey (node-key u a) (node-key (u + 1) b) ∙ rises (nodeKeyAt s) (headerOf s .nodes) (w .nodes .rise) (a .row) (b .row) l (b .inside)
 
     -- the ends of a kept edge row are kept
@@ -168,8 +169,8 @@ module _ (s : List ℕ) (office : ℕ) where
         (record {
           kind-low = f .kind-low;
           kind-high = f .kind-high;
-          from = below-strict (nodeKept s office) _ (headerOf s .nodes) (f .from) (from-kept (r .row) (r .inside) (r .kept));
-          to = below-strict (nodeKept s office) _ (headerOf s .nodes) (f .to) (to-kept (r .row) (r .inside) (r .kept));
+          from = many-strict (nodeKept s office) _ (headerOf s .nodes) (f .from) (from-kept (r .row) (r .inside) (r .passes));
+          to = many-strict (nodeKept s office) _ (headerOf s .nodes) (f .to) (to-kept (r .row) (r .inside) (r .passes));
         })
 
     own-fits : (j : ℕ) → j < headerOf s .edges → edgeKept (edgeTable s) office j ≡ true
@@ -183,7 +184,7 @@ module _ (s : List ℕ) (office : ℕ) where
         rw (node-at _ (p .from) x, node-at _ (p .to) y)
         (record {
           ends = f .ends;
-          apart = λ q d. f .apart q (below-one (nodeKept s office) _ _ x y d);
+          apart = λ q d. f .apart q (many-one (nodeKept s office) _ _ x y d);
           marks = own-marks;
           in-from = refl;
           in-to = refl;
@@ -191,18 +192,18 @@ module _ (s : List ℕ) (office : ℕ) where
 
     edge-fits : (v : ℕ) → v < e → EdgeFits header (edgeAt edges v) (nodeAt t (edgeAt edges v .from)) (nodeAt t (edgeAt edges v .to))
     unfolding ownEdge
-    edge-fits v h = let r = edge-row v h in rw (edge-of v r) (own-fits (r .row) (r .inside) (r .kept))
+    edge-fits v h = let r = edge-row v h in rw (edge-of v r) (own-fits (r .row) (r .inside) (r .passes))
 
     edges-rise : Rising (edgeKeyAt edges) e
     unfolding ownEdge
     edges-rise v h =
         let a = edge-row v (omega arith) in
         let b = edge-row (v + 1) h in
-        let l = below-order (edgeKept (edgeTable s) office) (a .row) (b .row) (omega (arith, a .at, b .at)) in
+        let l = many-order (edgeKept (edgeTable s) office) (a .row) (b .row) (omega (arith, a .at, b .at)) in
         rw (edge-of v a, edge-of (v + 1) b)
         (mapped-below map (edgeAt (edgeTable s) (a .row)) (edgeAt (edgeTable s) (b .row))
-        (λ d. below-strict (nodeKept s office) _ _ d (from-kept (a .row) (a .inside) (a .kept)))
-        (λ d. below-strict (nodeKept s office) _ _ d (to-kept (a .row) (a .inside) (a .kept)))
+        (λ d. many-strict (nodeKept s office) _ _ d (from-kept (a .row) (a .inside) (a .passes)))
+        (λ d. many-strict (nodeKept s office) _ _ d (to-kept (a .row) (a .inside) (a .passes)))
         (rises (edgeKeyAt (edgeTable s)) (headerOf s .edges) (w .edges .rise) (a .row) (b .row) l (b .inside)))
 
     formed : WellFormed t edges header
@@ -220,8 +221,8 @@ module _ (s : List ℕ) (office : ℕ) where
               form = refl;
               offices-low = omega arith;
               offices-high = omega arith;
-              nodes = omega (arith, below-most (nodeKept s office) (headerOf s .nodes), w .nodes .header .nodes);
-              edges = omega (arith, below-most (edgeKept (edgeTable s) office) (headerOf s .edges), w .nodes .header .edges);
+              nodes = omega (arith, many-most (nodeKept s office) (headerOf s .nodes), w .nodes .header .nodes);
+              edges = omega (arith, many-most (edgeKept (edgeTable s) office) (headerOf s .edges), w .nodes .header .edges);
               nodes-from = refl;
               edges-from = refl;
               whole = taken-long;
@@ -236,20 +237,20 @@ module _ (s : List ℕ) (office : ℕ) where
     unfolding nodeKept ownNode
     nodes-carried =
         record {
-          inside = λ i h k. subst (λ (x : Header). map i < x .nodes) (sym header-is) (below-strict (nodeKept s office) i (headerOf s .nodes) h k);
+          inside = λ i h k. subst (λ (x : Header). map i < x .nodes) (sym header-is) (many-strict (nodeKept s office) i (headerOf s .nodes) h k);
           like = λ i h k. ap nodeKey (node-at i h k);
           bears = λ i h k. ap (λ (r : Node). marked (r .offices) 1) (node-at i h k);
           back = λ u h b. from (node-row u (subst (λ (x : Header). u < x .nodes) header-is h));
         }
       where
-        from : {u : ℕ} → KeptRow (nodeKept s office) (headerOf s .nodes) u → From (headerOf s .nodes) (λ i. nodeAt s i .offices) office map u
-        from r = record { row = r .row; inside = r .inside; bears = r .kept; goes = r .at }
+        from : {u : ℕ} → Passing (nodeKept s office) (headerOf s .nodes) u → From (headerOf s .nodes) (λ i. nodeAt s i .offices) office map u
+        from r = record { row = r .row; inside = r .inside; bears = r .passes; goes = r .at }
 
     edges-carried : EdgesCarried s t office 1 map edge-map
     unfolding edgeKept ownEdge
     edges-carried =
         record {
-          inside = λ j h k. subst (λ (x : Header). edge-map j < x .edges) (sym header-is) (below-strict (edgeKept (edgeTable s) office) j (headerOf s .edges) h k);
+          inside = λ j h k. subst (λ (x : Header). edge-map j < x .edges) (sym header-is) (many-strict (edgeKept (edgeTable s) office) j (headerOf s .edges) h k);
           like = λ j h k. ap edgeKey (there j h k);
           bears = λ j h k. ap (λ (r : Edge). marked (r .offices) 1) (there j h k);
           back = λ v h b. from (edge-row v (subst (λ (x : Header). v < x .edges) header-is h));
@@ -258,8 +259,8 @@ module _ (s : List ℕ) (office : ℕ) where
         there : (j : ℕ) → j < headerOf s .edges → edgeKept (edgeTable s) office j ≡ true → edgeAt (edgeTable t) (edge-map j) ≡ ownEdge map (edgeAt (edgeTable s) j)
         there j h k = ap (λ (x : List ℕ). edgeAt x (edge-map j)) table-is ∙ edge-at j h k
 
-        from : {v : ℕ} → KeptRow (edgeKept (edgeTable s) office) (headerOf s .edges) v → From (headerOf s .edges) (λ j. edgeAt (edgeTable s) j .offices) office edge-map v
-        from r = record { row = r .row; inside = r .inside; bears = r .kept; goes = r .at }
+        from : {v : ℕ} → Passing (edgeKept (edgeTable s) office) (headerOf s .edges) v → From (headerOf s .edges) (λ j. edgeAt (edgeTable s) j .offices) office edge-map v
+        from r = record { row = r .row; inside = r .inside; bears = r .passes; goes = r .at }
 
 -- so it is what is taken out of an accepted sheet
 pub taken-is : (s : List ℕ) (k : ℕ) → Accepted s → IsTaken s k 1 (takenSheet s (suc k))

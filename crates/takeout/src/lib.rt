@@ -8,17 +8,17 @@ ghost use mathlib.Core.List.{_++_};
 ghost use Prim.Native.Nat.{ℕ, suc, _+_, _-_, _*_, _/_, _%_, _^_, _<_, _≤_};
 ghost use lib.ListN.{length, getD, drop};
 ghost use lib.Seq.{sets};
+ghost use Rattle.tables.specs.Count.{numberOf, howMany};
 ghost use Rattle.sheet.specs.Limits.{headerWords, edgeWords, edgesFrom, maxNodes};
 ghost use Rattle.sheet.specs.Refusals.{_is_, none};
 ghost use Rattle.sheet.specs.Rows.{headerOf, edgeAt};
 ghost use Rattle.sheet.specs.Accepted.{EdgeRoom, EdgeShaped, NodesFormed, WellFormed};
 ghost use Rattle.meaning.specs.Join.{IsTaken};
 ghost use Rattle.ask.specs.Asked.{badOffice, plain, afterSheet};
-ghost use Rattle.ask.specs.Listed.{numberOf};
 ghost use Rattle.ask.specs.Placed.{AtOffice};
 ghost use Rattle.ask.specs.Replies.{Shows};
 ghost use Rattle.carry.specs.Stored.{nodeFour, edgeFour};
-ghost use Rattle.takeout.specs.Kept.{keptBelow, wordsIf, holding, CountsKept};
+ghost use Rattle.takeout.specs.Kept.{wordsIf, holding, CountsKept};
 ghost use Rattle.takeout.specs.Taken.{nodeKept, edgeKept, ownNode, ownEdge, takenNode, takenEdge, takenSheet};
 
 // One number for each node row.
@@ -45,7 +45,7 @@ fn one_if(kept: bool) -> u32
 // How many node rows office k + 1 has, and below each row, which is the row's number once it is taken out.
 fn kept_nodes(sheet: &[u32], h: Header, k: u32, mark: u32, below: &mut [u32]) -> u32
     requires { ⌜ NodesFormed (now sheet) h × (mark ≡ 2 ^ k) × (0 < mark) × (length (now below) ≡ maxNodes) ⌝ }
-    ensures { λ r. ⌜ (r ≡ keptBelow (nodeKept (now (sheet .entry)) (suc k)) (h .nodes)) × CountsKept (nodeKept (now (sheet .entry)) (suc k)) (h .nodes) (now (below .exit)) ⌝ }
+    ensures { λ r. ⌜ (r ≡ howMany (nodeKept (now (sheet .entry)) (suc k)) (h .nodes)) × CountsKept (nodeKept (now (sheet .entry)) (suc k)) (h .nodes) (now (below .exit)) ⌝ }
 {
     let rows = h.nodes;
     let mut n: u32 = 0;
@@ -63,7 +63,7 @@ fn kept_nodes(sheet: &[u32], h: Header, k: u32, mark: u32, below: &mut [u32]) ->
 // How many edge rows office k + 1 has.
 fn kept_edges(edges: &[u32], h: Header, k: u32, mark: u32) -> u32
     requires { ⌜ EdgeRoom h (now edges) × (mark ≡ 2 ^ k) × (0 < mark) ⌝ }
-    ensures { λ r. ⌜ r ≡ keptBelow (edgeKept (now (edges .entry)) (suc k)) (h .edges) ⌝ }
+    ensures { λ r. ⌜ r ≡ howMany (edgeKept (now (edges .entry)) (suc k)) (h .edges) ⌝ }
 {
     let rows = h.edges;
     let mut n: u32 = 0;
@@ -96,7 +96,7 @@ fn keep_node(out: &mut [u32], n: usize, r: Node, kept: bool) -> usize
 
 // Writes office k + 1's node rows behind the header's words.
 fn write_nodes(sheet: &[u32], h: Header, k: u32, mark: u32, out: &mut [u32])
-    requires { ⌜ NodesFormed (now sheet) h × (mark ≡ 2 ^ k) × (0 < mark) × (edgesFrom (keptBelow (nodeKept (now sheet) (suc k)) (h .nodes)) ≤ length (now out)) ⌝ }
+    requires { ⌜ NodesFormed (now sheet) h × (mark ≡ 2 ^ k) × (0 < mark) × (edgesFrom (howMany (nodeKept (now sheet) (suc k)) (h .nodes)) ≤ length (now out)) ⌝ }
     ensures { λ _. ⌜ now (out .exit) ≡ holding (nodeKept (now (sheet .entry)) (suc k)) (takenNode (now (sheet .entry))) headerWords (now (out .entry)) (h .nodes) ⌝ }
 {
     let rows = h.nodes as usize;
@@ -139,7 +139,7 @@ fn keep_edge(table: &mut [u32], n: usize, e: Edge, kept: bool) -> usize
 
 // Writes office k + 1's edge rows, their ends renumbered, from the table's first word on.
 fn write_edges(edges: &[u32], h: Header, k: u32, mark: u32, below: &[u32], table: &mut [u32])
-    requires { ⌜ EdgeRoom h (now edges) × ((j : ℕ) → j < h .edges → EdgeShaped h (edgeAt (now edges) j)) × (h .nodes ≤ length (now below)) × (mark ≡ 2 ^ k) × (0 < mark) × (edgeWords * keptBelow (edgeKept (now edges) (suc k)) (h .edges) ≤ length (now table)) ⌝ }
+    requires { ⌜ EdgeRoom h (now edges) × ((j : ℕ) → j < h .edges → EdgeShaped h (edgeAt (now edges) j)) × (h .nodes ≤ length (now below)) × (mark ≡ 2 ^ k) × (0 < mark) × (edgeWords * howMany (edgeKept (now edges) (suc k)) (h .edges) ≤ length (now table)) ⌝ }
     ensures { λ _. ⌜ now (table .exit) ≡ holding (edgeKept (now (edges .entry)) (suc k)) (takenEdge (λ x. getD (now (below .entry)) x 0) (now (edges .entry))) 0 (now (table .entry)) (h .edges) ⌝ }
 {
     let rows = h.edges as usize;
@@ -165,7 +165,7 @@ fn write_sheet(
     e: u32,
     out: &mut [u32],
 )
-    requires { ⌜ AtOffice (now sheet) (now edges) h k mark × CountsKept (nodeKept (now sheet) (suc k)) (h .nodes) (now below) × (n ≡ keptBelow (nodeKept (now sheet) (suc k)) (h .nodes)) × (e ≡ keptBelow (edgeKept (now edges) (suc k)) (h .edges)) × (length (takenSheet (now sheet) (suc k)) ≤ length (now out)) ⌝ }
+    requires { ⌜ AtOffice (now sheet) (now edges) h k mark × CountsKept (nodeKept (now sheet) (suc k)) (h .nodes) (now below) × (n ≡ howMany (nodeKept (now sheet) (suc k)) (h .nodes)) × (e ≡ howMany (edgeKept (now edges) (suc k)) (h .edges)) × (length (takenSheet (now sheet) (suc k)) ≤ length (now out)) ⌝ }
     ensures { λ _. ⌜ now (out .exit) ≡ takenSheet (now (sheet .entry)) (suc k) ++ drop (length (takenSheet (now (sheet .entry)) (suc k))) (now (out .entry)) ⌝ }
 {
     carry::put_header(out, 1, n, e);

@@ -3,7 +3,7 @@
 use native.Mathlib.Omega.{arith}
 use lib.ListN.{length-set}
 use borrow.Author.Needs.{needs}
-use Rattle.files.proofs.Words.{stores}
+use Rattle.sheet.proofs.Writing.{four-stores}
 use Rattle.files.proofs.put_word.Statement.{statement}
 use Rattle.files.proofs.put_word.Tie as tie
 
@@ -44,7 +44,7 @@ same-length : tie.Need-same-length
 same-length c = search needs
 
 returns : tie.Need-returns
-returns c = stores (c .args .bytes .now) (c .args .at) _ _ _ _
+returns c = four-stores (c .args .bytes .now) (c .args .at) _ _ _ _
 
 pub put-word-spec : {M : Type 1} → statement M
 put-word-spec =

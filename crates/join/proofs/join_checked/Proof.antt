@@ -4,7 +4,7 @@ use mathlib.Core.Path.{sym, ap, _∙_}
 use borrow.Author.Needs.{needs}
 use Rattle.join.specs.Joined.{refusedBy}
 use Rattle.join.proofs.Parts.{fits, offset-low, offset-high, node-most}
-use Rattle.join.proofs.Matched.{nodes-mergeable, edges-mergeable}
+use Rattle.join.proofs.Matched.{nodes-mergeable, nodes-beside, edges-mergeable, edges-beside}
 use Rattle.join.proofs.Refusing.{joins-refused, too-much-is, within-limits}
 use Rattle.join.proofs.Joining.{nodes-union, edges-union, nodes-most, edges-most, joined-laid}
 use Rattle.join.proofs.join_checked.Statement.{statement}
@@ -97,8 +97,8 @@ write-joint-requires : tie.Need-write-joint-requires
 write-joint-requires c κs = let P = c .before .before .before .before .before .before .before .before .before .before .before .before .before .before .before .before .before .before .before .before .pre in
     let places = c .before .before .before .before .before .before .before .before .before .before .places-of .ensures in
     let l = within-limits _ _ _ (sym (c .before .before .before .if1 .left) ∙ c .before .before .before .before .too-much .ensures) in (
-      (nodes-mergeable _ _ (P .0) _ _ (P .1), places .merged .drawn .walked .count, l .0),
-      ((edges-mergeable _ _ (P .0) _ _ (P .1) _ places, c .before .before .before .before .before .count-rows .ensures, l .1), l .2),
+      (nodes-mergeable _ _ (P .0) _ _ (P .1), nodes-beside _ _ (P .0) _ _ (P .1), places .count, l .0),
+      ((edges-mergeable _ _ (P .0) _ _ (P .1) _ places, edges-beside _ _ (P .0) _ _ (P .1), c .before .before .before .before .before .count-rows .ensures, l .1), l .2),
     )
 
 told-requires : tie.Need-told-requires

@@ -66,7 +66,8 @@ write-rows-requires-2 c κs =
     let room = S .pre .1 .1 in (
       S .pre .1 .0 .0,
       S .pre .1 .0 .1,
-      second-room (header .last .0) (rows .last .1 .1 .1 .1 .0) 6 (edgesFrom (S .args .n)) (4 * S .args .e) (omega arith) (rows .kept .1 .1 .1 .1 .0) (omega arith),
+      S .pre .1 .0 .2,
+      second-room (header .last .0) (rows .last .1 .1 .1 .1 .1 .0) 6 (edgesFrom (S .args .n)) (4 * S .args .e) (omega arith) (rows .kept .1 .1 .1 .1 .1 .0) (omega arith),
     )
 
 same-length : tie.Need-same-length

@@ -1,7 +1,7 @@
 -- `least::start_number` meets its contract.
 -- Assumes nothing.
 use mathlib.Core.Path.{sym, ap}
-use Rattle.ask.specs.Listed.{numberOf}
+use Rattle.tables.specs.Count.{numberOf}
 use Rattle.least.specs.Least.{starting}
 use Rattle.least.proofs.start_number.Statement.{statement}
 use Rattle.least.proofs.start_number.Tie as tie

@@ -1,8 +1,8 @@
 -- `lists::person_start` meets its contract.
 -- Assumes nothing.
-use Rattle.ask.specs.Listed.{numberOf}
 use borrow.Author.Tests.{eq-eqb, ne-eqb}
 use mathlib.Core.Path.{sym, ap}
+use Rattle.tables.specs.Count.{numberOf}
 use Rattle.lists.proofs.person_start.Statement.{statement}
 use Rattle.lists.proofs.person_start.Tie as tie
 

@@ -1,8 +1,8 @@
 -- `lists::person_starts` meets its contract. The loop's invariant: the starts are right for the rows passed.
 -- Assumes nothing.
+use Rattle.tables.specs.Count.{numberOf}
 use Rattle.reach.proofs.Marking.{starts-none, starts-more, starts-all}
 use Rattle.reach.specs.Reaching.{Started}
-use Rattle.ask.specs.Listed.{numberOf}
 use Rattle.sheet.specs.declared.Node.{Node}
 use Rattle.sheet.specs.Rows.{nodeAt}
 use Rattle.walk.proofs.Starting.{blank-all}

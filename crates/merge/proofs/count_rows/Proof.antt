@@ -1,11 +1,11 @@
--- `merge::count_rows` meets its contract. The loop's invariant: some words are drawn, of k rows.
+-- `merge::count_rows` meets its contract. The loop's invariant: there are keys of k merged rows.
 -- Assumes nothing.
 use Prim.Native.Nat.{_+_, _-_}
 use mathlib.Core.Path.{_≡_, ap₂}
 use native.Mathlib.Omega.{arith}
 use borrow.Author.Needs.{needs}
-use Rattle.merge.specs.Lent.{rowsIn, Counted}
-use Rattle.merge.proofs.Drawing.{counted-none, counted-on, drawn-done, inside}
+use Rattle.merge.specs.Lent.{rowsIn}
+use Rattle.merge.proofs.Drawing.{Counted, counted-none, counted-on, counted-done, inside}
 use Rattle.merge.proofs.count_rows.Statement.{statement}
 use Rattle.merge.proofs.count_rows.Tie as tie
 
@@ -28,15 +28,15 @@ loop-holds : tie.Need-loop-holds Inv-loop μ-loop
 loop-holds c = (counted-none _ _ _ _, ap₂ _+_ (c .before .rows-in .ensures) (c .rows-in2 .ensures))
 
 add-loop : tie.Need-add-loop Inv-loop μ-loop
-add-loop c = let M = c .before .before .before .before .before .before .before .pre in let I = inside _ _ _ _ _ _ _ _ (c .loop .inv .0 .drawn) in omega (arith, M .first-most, M .second-most, I .first, I .second)
+add-loop c = let M = c .before .before .before .before .before .before .before .pre in let I = inside _ _ _ _ _ _ _ _ (c .loop .inv .0 .walked) in omega (arith, M .first-most, M .second-most, I .first, I .second)
 
 next-row-requires : tie.Need-next-row-requires Inv-loop μ-loop
 next-row-requires c κs = let L = c .before .loop in
-    let I = inside _ _ _ _ _ _ _ _ (L .inv .0 .drawn) in
+    let I = inside _ _ _ _ _ _ _ _ (L .inv .0 .walked) in
     (c .before .before .before .before .before .before .before .before .pre, I .first, I .second, omega (arith, L .inv .1, c .loop-test .taken))
 
 add-k : tie.Need-add-k Inv-loop μ-loop
-add-k c = let M = c .before .before .before .before .before .before .before .before .before .pre in let I = inside _ _ _ _ _ _ _ _ (c .before .before .loop .inv .0 .drawn) in omega (arith, M .first-most, M .second-most, I .first, I .second, I .rows)
+add-k c = let M = c .before .before .before .before .before .before .before .before .before .pre in let I = inside _ _ _ _ _ _ _ _ (c .before .before .loop .inv .0 .walked) in omega (arith, M .first-most, M .second-most, I .first, I .second, I .rows)
 
 loop-less : tie.Need-loop-less Inv-loop μ-loop
 loop-less c = let L = c .before .before .loop in omega (arith, c .next-row .ensures .moved, c .before .loop-test .taken)
@@ -45,7 +45,7 @@ loop-again : tie.Need-loop-again Inv-loop μ-loop
 loop-again c = let L = c .before .before .loop in (counted-on _ _ _ _ (c .before .before .before .before .before .before .before .before .before .pre) _ _ _ (L .inv .0) _ _ _ (c .next-row .ensures), L .inv .1)
 
 returns : tie.Need-returns Inv-loop μ-loop
-returns c = let L = c .before .loop in drawn-done _ _ _ _ _ _ _ _ (L .inv .0 .drawn) (omega (arith, L .inv .1, c .loop-test .left)) .walked .count
+returns c = let L = c .before .loop in counted-done _ _ _ _ _ _ _ (L .inv .0) (omega (arith, L .inv .1, c .loop-test .left))
 
 pub count-rows-spec : {M : Type 1} → statement M
 count-rows-spec =
