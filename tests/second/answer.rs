@@ -10,6 +10,7 @@ use crate::sheet::words_of;
 use crate::survey::{is_survey, survey, REDUNDANT};
 use crate::take_out::TAKE_OUT;
 use crate::trial::{Expected, Request};
+use crate::way::way_of;
 
 pub const ANSWER: u32 = 1;
 pub const JOINT: u32 = 2;
@@ -66,7 +67,10 @@ pub fn called(operation: u32) -> String {
 
 /// Whether the answer goes into the output, so that its room counts.
 pub fn writes(operation: u32) -> bool {
-    (WITNESS..=TAKE_OUT).contains(&operation) && operation != LISTED
+    match way_of(operation) {
+        Some((_, question)) => question == WITNESS,
+        None => (WITNESS..=TAKE_OUT).contains(&operation) && operation != LISTED,
+    }
 }
 
 /// What questions 3 and 4 name after the office: kind, person, deed, folio;

@@ -7,6 +7,7 @@ use crate::join::JOIN;
 use crate::lookup::{Wanted, LOOKUP};
 use crate::sheet::*;
 use crate::take_out::TAKE_OUT;
+use crate::way::Way;
 
 #[derive(Clone, Debug)]
 pub enum Says {
@@ -17,6 +18,8 @@ pub enum Says {
     Joint(u32, u32),
     /// a path, a list, a triple or a pair
     Written(Vec<u32>),
+    /// a path, counted in bytes
+    Spelt(Vec<u32>),
     /// a row, and how many of its words fit
     Part(Row, usize),
     /// the joint sheet, and how many nodes and edges are shared
@@ -35,16 +38,18 @@ impl Says {
                 ([0, 0, 0, words[2], words.len() as u32, *nodes, *edges], words.clone())
             }
             Says::Written(words) => ([0, 0, 0, 0, words.len() as u32, 0, 0], words.clone()),
+            Says::Spelt(words) => ([0, 0, 0, 0, 4 * words.len() as u32, 0, 0], words.clone()),
         }
     }
 }
 
+#[derive(Clone)]
 pub struct Asked {
     pub name: String,
     pub says: Says,
     operation: u32,
     numbers: Vec<u32>,
-    sheet: Vec<u32>,
+    sheet: Vec<u8>,
     second: Vec<u32>,
     room: usize,
 }
@@ -54,10 +59,23 @@ impl Asked {
         Inquiry {
             operation: self.operation,
             numbers: self.numbers.clone(),
-            sheet: bytes_of(&self.sheet),
+            sheet: self.sheet.clone(),
             second: self.second.clone(),
             room: self.room,
         }
+    }
+
+    /// The same of an opened sheet or by the counter, for questions 1 to 3.
+    pub fn by(self, way: Way) -> Option<Asked> {
+        if self.operation > WITNESS {
+            return None;
+        }
+        let says = match (way, self.says) {
+            (Way::Counter, Says::Written(path)) => Says::Spelt(path),
+            (_, says) => says,
+        };
+        let (name, operation) = (self.name, way.operation(self.operation));
+        Some(Asked { name: format!("{name} {}", way.name()), says, operation, ..self })
     }
 }
 
@@ -68,10 +86,21 @@ pub struct Book {
 
 impl Book {
     fn add(&mut self, name: &str, operation: u32, sheet: &[u32], numbers: &[u32], says: Says) {
+        self.file(name, operation, bytes_of(sheet), numbers, says);
+    }
+
+    /// Of bytes that need not be whole words.
+    pub fn file(
+        &mut self,
+        name: &str,
+        operation: u32,
+        sheet: Vec<u8>,
+        numbers: &[u32],
+        says: Says,
+    ) {
         let name = format!("{name} ({})", called(operation));
-        let (sheet, numbers) = (sheet.to_vec(), numbers.to_vec());
-        let asked = Asked { name, says, operation, numbers, sheet, second: Vec::new(), room: 0 };
-        self.asked.push(asked);
+        let (numbers, second) = (numbers.to_vec(), Vec::new());
+        self.asked.push(Asked { name, says, operation, numbers, sheet, second, room: 0 });
     }
 
     fn with_room(&mut self, name: &str, sheet: &Sheet, numbers: [u32; 5], room: usize, says: Says) {

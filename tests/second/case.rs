@@ -1,7 +1,7 @@
 //! What is put to the trial, case by case. A case of a check follows from the
 //! seed and its number alone; the questions come after the checks, 5 to 10 after
-//! 1 to 4, then the lookup, then joining and taking out, so their numbers follow
-//! from how many there are before them.
+//! 1 to 4, then the lookup, then joining and taking out, then the other ways to
+//! questions 1 to 3, so their numbers follow from how many there are before them.
 
 use crate::answer;
 use crate::coverage::{self, Cell, CHECK_BYTES, CHECK_WORDS, UNKNOWN};
@@ -22,6 +22,8 @@ use crate::sheet::{bytes_of, words_of};
 use crate::surveys::Surveys;
 use crate::take_out::{self, TAKE_OUT};
 use crate::trial::{Expected, Request, MOST_PAYLOAD};
+use crate::way::{self, way_of};
+use crate::ways::Ways;
 
 /// What is remembered of a case while its reply is on the way.
 pub struct About {
@@ -54,7 +56,8 @@ pub struct Case {
 }
 
 /// How many random cases there are: of the checks, of questions 1 to 4, of 5 to
-/// 10, of the lookup, and of joining and taking out.
+/// 10, of the lookup, of joining and taking out, and of the other ways to
+/// questions 1 to 3.
 #[derive(Clone, Copy, Default)]
 pub struct Counts {
     pub checks: usize,
@@ -62,11 +65,28 @@ pub struct Counts {
     pub surveys: usize,
     pub lookups: usize,
     pub joins: usize,
+    pub ways: usize,
+}
+
+impl Counts {
+    /// At least so many in all, with shares that give each operation some, and the
+    /// slower ones fewer.
+    pub fn of_long_run(total: usize) -> Counts {
+        let share = |percent: usize| (total * percent).div_ceil(100);
+        Counts {
+            checks: share(14),
+            questions: share(22),
+            surveys: share(26),
+            lookups: share(6),
+            joins: share(12),
+            ways: share(20),
+        }
+    }
 }
 
 /// First the checks: the named cases, then one aimed at each cell of the
 /// coverage table, then the random ones. Then questions 1 to 4, then 5 to 10,
-/// then the lookup, then joining and taking out.
+/// then the lookup, then joining and taking out, then the other ways.
 pub struct Plan {
     seed: u64,
     named: Vec<Named>,
@@ -76,6 +96,7 @@ pub struct Plan {
     surveys: Surveys,
     lookups: Lookups,
     joins: Joins,
+    ways: Ways,
 }
 
 type Maker = fn(&mut Random) -> Vec<u8>;
@@ -114,6 +135,7 @@ impl Plan {
             surveys: Surveys::new(seed, counts.surveys),
             lookups: Lookups::new(seed, counts.lookups),
             joins: Joins::new(seed, counts.joins),
+            ways: Ways::new(seed, counts.ways),
         }
     }
 
@@ -137,11 +159,19 @@ impl Plan {
         self.before_lookups() + self.lookups.len()
     }
 
-    pub fn len(&self) -> usize {
+    /// Where the cases of the other ways begin.
+    pub fn before_ways(&self) -> usize {
         self.before_joins() + self.joins.len()
     }
 
+    pub fn len(&self) -> usize {
+        self.before_ways() + self.ways.len()
+    }
+
     pub fn case(&self, number: usize) -> Case {
+        if let Some(at) = number.checked_sub(self.before_ways()) {
+            return asked_case(number, self.ways.case(at));
+        }
         if let Some(at) = number.checked_sub(self.before_joins()) {
             return asked_case(number, self.joins.case(at));
         }
@@ -237,6 +267,9 @@ fn judged(number: usize, kind: &'static str, name: String, request: Request) -> 
 pub fn expect(request: &Request) -> Expected {
     if answer::is_question(request.operation) {
         return answer::expect(request);
+    }
+    if let Some((way, question)) = way_of(request.operation) {
+        return way::expect(request, way, question);
     }
     let verdict = match request.operation {
         LOOKUP => return lookup::expect(request),

@@ -17,6 +17,8 @@ use crate::survey_goals;
 use crate::take_goals;
 use crate::take_out::TAKE_OUT;
 use crate::trial::{Expected, Request};
+use crate::way::{operations, way_of};
+use crate::way_goals;
 
 fn refusals(operation: u32) -> Vec<u32> {
     let own: &[u32] = match operation {
@@ -55,6 +57,17 @@ const LIST_GOALS: [&str; 6] = [
 ];
 
 pub fn needed() -> Vec<String> {
+    let mut goals = of_questions();
+    goals.extend(survey_goals::needed());
+    goals.extend(of_operation(LOOKUP, lookup_goals::needed()));
+    goals.extend(of_operation(JOIN, join_goals::needed()));
+    goals.extend(of_operation(TAKE_OUT, take_goals::needed()));
+    goals.extend(way_goals::needed());
+    goals
+}
+
+/// Of questions 1 to 4.
+pub fn of_questions() -> Vec<String> {
     let mut goals = Vec::new();
     for operation in ANSWER..=LISTED {
         let refused = refusals(operation).into_iter();
@@ -72,10 +85,6 @@ pub fn needed() -> Vec<String> {
         goals.extend(WITNESS_GOALS.map(|goal| format!("question 3: {side:?} path {goal}")));
         goals.extend(LIST_GOALS.map(|goal| format!("question 4: {side:?} list {goal}")));
     }
-    goals.extend(survey_goals::needed());
-    goals.extend(of_operation(LOOKUP, lookup_goals::needed()));
-    goals.extend(of_operation(JOIN, join_goals::needed()));
-    goals.extend(of_operation(TAKE_OUT, take_goals::needed()));
     goals
 }
 
@@ -87,7 +96,8 @@ fn of_operation(operation: u32, goals: Vec<String>) -> Vec<String> {
 /// question or operation.
 pub fn needed_in(scope: &Scope) -> Vec<String> {
     let of_scope = |goal: &String| {
-        let mut own = (ANSWER..=TAKE_OUT).filter(|&operation| scope.has(operation));
+        let all = (ANSWER..=TAKE_OUT).chain(operations());
+        let mut own = all.filter(|&operation| scope.has(operation));
         own.any(|operation| goal.starts_with(&format!("{}: ", called(operation))))
     };
     needed().into_iter().filter(of_scope).collect()
@@ -113,6 +123,15 @@ pub fn met(request: &Request, expected: &Expected) -> Vec<String> {
         TAKE_OUT => return of_operation(operation, take_goals::met(request, expected)),
         _ => {}
     }
+    match way_of(operation) {
+        Some((way, question)) => way_goals::met(request, expected, way, question),
+        None => met_by_question(request, expected),
+    }
+}
+
+/// Of questions 1 to 4.
+pub fn met_by_question(request: &Request, expected: &Expected) -> Vec<String> {
+    let operation = request.operation;
     let [number, _, _, value, count, ..] = expected.reply;
     let mut goals = Vec::new();
     if number != 0 {

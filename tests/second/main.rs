@@ -4,7 +4,9 @@
 //!
 //! second [--seed N] [--cases N] [--questions N] [--only OPERATIONS] [--case K]
 //!     [--patience SECONDS] -- COMMAND ARGS..
+//! second --long N [--seed N] [--only OPERATIONS] [--case K] -- COMMAND ARGS..
 //! second --benchmark [--only OPERATIONS] -- COMMAND ARGS..
+//! second --seeds FOLDER [--seed N]
 //! second --self-test
 
 mod answer;
@@ -44,6 +46,7 @@ mod misread_joins;
 mod misread_lookups;
 mod misread_redundant;
 mod misread_takings;
+mod misread_ways;
 mod misreadings;
 mod named;
 mod named_join_refusals;
@@ -57,11 +60,13 @@ mod named_rows;
 mod named_survey_refusals;
 mod named_surveys;
 mod named_takings;
+mod named_ways;
 mod office;
 mod options;
 mod outcome_goals;
 mod outline;
 mod pairs;
+mod progress;
 mod questions;
 mod random;
 mod reach;
@@ -71,6 +76,7 @@ mod report;
 mod scene;
 mod scope;
 mod scramble;
+mod seeds;
 mod selftest;
 mod selftest_benchmark;
 mod selftest_counted;
@@ -81,6 +87,7 @@ mod selftest_named;
 mod selftest_paths;
 mod selftest_questions;
 mod selftest_surveys;
+mod selftest_ways;
 mod sheet;
 mod sister;
 mod stopwatch;
@@ -96,6 +103,10 @@ mod tally;
 mod throng;
 mod trial;
 mod unions;
+mod way;
+mod way_goals;
+mod way_inquiry;
+mod ways;
 
 use std::process::exit;
 use std::sync::Arc;
@@ -103,6 +114,7 @@ use std::time::Duration;
 
 use case::Plan;
 use options::Options;
+use progress::Progress;
 use report::Report;
 use tally::Tally;
 
@@ -110,6 +122,7 @@ fn main() {
     let tally = match Options::read(std::env::args().skip(1)) {
         Ok(options) if options.self_test => selftest::run(),
         Ok(options) if options.benchmark => benchmark::run(&options),
+        Ok(Options { seed, seeds: Some(folder), .. }) => seeds::run(seed, &folder),
         Ok(options) => run(&options),
         Err(why) => {
             eprintln!("{why}\n{}", options::USAGE);
@@ -135,8 +148,10 @@ fn run(options: &Options) -> Tally {
         (case.about, case.request, case.expected)
     });
     let patience = Duration::from_secs(options.patience);
+    let mut progress = options.long.then(|| Progress::of(report.len()));
     let faults = trial::question(&options.command, cases, patience, |about, differences| {
         report.answered(about, differences);
+        progress.iter_mut().for_each(Progress::step);
     });
     report.close(faults)
 }

@@ -6,11 +6,19 @@ use crate::scope::Scope;
 pub const USAGE: &str = "usage:
   second [--seed N] [--cases N] [--questions N] [--only OPERATIONS] [--case K]
       [--patience SECONDS] -- COMMAND ARGS..
+  second --long N [--seed N] [--only OPERATIONS] [--case K] -- COMMAND ARGS..
   second --benchmark [--only OPERATIONS] -- COMMAND ARGS..
+  second --seeds FOLDER [--seed N]
   second --self-test";
 
-const COUNTS: Counts =
-    Counts { checks: 24_000, questions: 24_000, surveys: 20_000, lookups: 2_000, joins: 10_000 };
+const COUNTS: Counts = Counts {
+    checks: 24_000,
+    questions: 24_000,
+    surveys: 20_000,
+    lookups: 2_000,
+    joins: 10_000,
+    ways: 4_200,
+};
 
 pub struct Options {
     pub seed: u64,
@@ -22,6 +30,10 @@ pub struct Options {
     pub case: Option<usize>,
     /// Seconds without a reply after which the trial is given up.
     pub patience: u64,
+    /// So many generated cases at least; how far it is goes to standard error.
+    pub long: bool,
+    /// A folder for what a fuzzer begins with.
+    pub seeds: Option<String>,
     pub self_test: bool,
     /// Times instead of comparisons.
     pub benchmark: bool,
@@ -36,6 +48,8 @@ impl Options {
             only: Scope::default(),
             case: None,
             patience: 300,
+            long: false,
+            seeds: None,
             self_test: false,
             benchmark: false,
             command: Vec::new(),
@@ -47,19 +61,24 @@ impl Options {
                 "--questions" => {
                     let each = number(&word, words.next())?;
                     let checks = options.counts.checks;
-                    let [questions, surveys, lookups, joins] = [each; 4];
-                    options.counts = Counts { checks, questions, surveys, lookups, joins };
+                    let [questions, surveys, lookups, joins, ways] = [each; 5];
+                    options.counts = Counts { checks, questions, surveys, lookups, joins, ways };
+                }
+                "--long" => {
+                    options.counts = Counts::of_long_run(number(&word, words.next())?);
+                    options.long = true;
                 }
                 "--only" => operations(&mut options.only, words.next())?,
                 "--case" => options.case = Some(number(&word, words.next())?),
                 "--patience" => options.patience = number(&word, words.next())?,
+                "--seeds" => options.seeds = words.next(),
                 "--self-test" => options.self_test = true,
                 "--benchmark" => options.benchmark = true,
                 "--" => options.command = words.by_ref().collect(),
                 _ => return Err(format!("not understood: {word}")),
             }
         }
-        if options.command.is_empty() && !options.self_test {
+        if options.command.is_empty() && !options.self_test && options.seeds.is_none() {
             return Err("no command that starts the trial program".to_string());
         }
         Ok(options)

@@ -48,6 +48,11 @@ impl Report {
         }
     }
 
+    /// How many cases the run has.
+    pub fn len(&self) -> usize {
+        self.numbers.len()
+    }
+
     pub fn answered(&mut self, about: About, mut differences: Vec<String>) {
         self.answered += 1;
         *self.kinds.entry(about.kind).or_insert(0) += 1;
@@ -114,6 +119,8 @@ impl Report {
     }
 
     fn print_counts(&self) {
+        let named = self.kinds.get("named").unwrap_or(&0);
+        println!("{} cases generated, {named} named", self.answered - named);
         println!("cases by kind:");
         for (kind, count) in &self.kinds {
             println!("  {kind}: {count}");

@@ -15,6 +15,7 @@ use crate::selftest_misreadings;
 use crate::selftest_paths;
 use crate::selftest_questions;
 use crate::selftest_surveys;
+use crate::selftest_ways;
 use crate::sheet::{bytes_of, words_of, MOST_EDGES, MOST_NODES};
 use crate::sister;
 use crate::tally::Tally;
@@ -40,6 +41,7 @@ pub fn run() -> Tally {
     selftest_misreadings::run(&mut tally);
     selftest_lookups::run(&mut tally);
     selftest_joins::run(&mut tally);
+    selftest_ways::run(&mut tally);
     selftest_benchmark::run(&mut tally);
     tally
 }
@@ -224,4 +226,12 @@ fn repeatable_cases(tally: &mut Tally) {
     tally.test("a case follows from seed and number alone", same);
     let differ = numbers.filter(|&number| bytes(&plan, number) != bytes(&other, number)).count();
     tally.test("another seed makes other cases", differ == 200);
+    for total in [0, 1, 99, 100, 101, 1_000_000] {
+        let Counts { checks, questions, surveys, lookups, joins, ways } =
+            Counts::of_long_run(total);
+        let all = [checks, questions, surveys, lookups, joins, ways];
+        let enough =
+            all.iter().sum::<usize>() >= total && all.iter().all(|&some| some > 0 || total == 0);
+        tally.test(&format!("a long run of {total}"), enough);
+    }
 }

@@ -195,7 +195,7 @@ fn repeatable_joins(tally: &mut Tally) {
     let of = |seed, joins| Plan::new(seed, Counts { joins, ..Counts::default() });
     let (plan, again, other) = (of(5, 200), of(5, 900), of(6, 200));
     let bytes = |plan: &Plan, number| plan.case(number).request.bytes();
-    let numbers = plan.len() - 200..plan.len();
+    let numbers = plan.before_ways() - 200..plan.before_ways();
     let same = numbers.clone().rev().all(|number| bytes(&plan, number) == bytes(&again, number));
     tally.test("a join follows from seed and number", same);
     let differ =
@@ -225,8 +225,8 @@ type Replies = fn(&Request) -> Vec<Expected>;
 /// The random cases, and those at the limits and of full sheets.
 fn told_apart(tally: &mut Tally) {
     let plan = Plan::new(1, Counts { joins: CASES, ..Counts::default() });
-    let first = plan.len() - CASES - FULL - LIMITS;
-    let cases: Vec<Case> = (first..plan.len()).map(|number| plan.case(number)).collect();
+    let first = plan.before_ways() - CASES - FULL - LIMITS;
+    let cases: Vec<Case> = (first..plan.before_ways()).map(|number| plan.case(number)).collect();
     let all: [(u32, Vec<&str>, Replies); 2] = [
         (JOIN, misread_joins::names(), misread_joins::replies),
         (TAKE_OUT, misread_takings::names(), misread_takings::replies),

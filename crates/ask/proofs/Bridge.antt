@@ -9,7 +9,6 @@ use mathlib.Core.Logic.{_⊎_, inl, inr}
 use lib.Dec.{eqb}
 use lib.ListN.{length}
 use borrow.Author.Tests.{eqb-true}
-use Rattle.tables.specs.Key.{Key}
 use Rattle.tables.specs.Office.{View}
 use Rattle.sheet.specs.Rows.{headerOf, nodeAt, edgeTable, nodeKeyAt}
 use Rattle.sheet.specs.Accepted.{Accepted}

@@ -10,7 +10,7 @@ use lib.Dec.{eqb}
 use Rattle.sheet.specs.declared.Node.{Node}
 use Rattle.sheet.specs.Rows.{nodeAt}
 use Rattle.paths.proofs.Tests.{or-left, or-right}
-use Rattle.ask.specs.Asked.{stands, someRow, known, FirstStanding}
+use Rattle.ask.specs.Asked.{stands, someRow, FirstStanding}
 
 -- the test that the code makes at a row is the definition's
 pub standing : (s : List ℕ) (any : Bool) (k mark class number i : ℕ) (r : Node) (b : Bool) → mark ≡ 2 ^ k → r ≡ nodeAt s i

@@ -1,6 +1,6 @@
 -- The bridge between the walk's rows and the meaning's identities: each arc of a right's walk is a relation that the office sees, and each relation an arc.
 -- Assumes nothing.
-use Prim.Native.Nat.{ℕ, zero, suc, _+_, _/_, _%_, _^_, _<_, _≤_}
+use Prim.Native.Nat.{ℕ, zero, suc, _/_, _%_, _^_, _<_, _≤_}
 use native.Mathlib.Omega.{arith}
 use mathlib.Core.Path.{_≡_, refl, sym, ap, subst, _∙_}
 use mathlib.Core.Bool.{Bool, true, false, not, _&&_, _||_, cond}
@@ -19,7 +19,6 @@ use Rattle.sheet.proofs.Naming.{edge-seen, seen-edge}
 use Rattle.paths.proofs.Tests.{and-left, and-right, both, or-left, or-right}
 use Rattle.meaning.specs.Paths.{Side, grant, ban, rightKind, person, category, deed, folio, member, contained, right, applies, step}
 use Rattle.walk.specs.declared.Walk.{Walk}
-use Rattle.walk.specs.declared.Arc.{Arc}
 use Rattle.walk.specs.Arcs.{takes, turned, tailOf, headOf, arcAt, Steps}
 
 -- the walk of a side's paths for a deed at office k + 1

@@ -3,12 +3,12 @@
 use Prim.Native.Nat.{ℕ, zero, suc, _+_, _-_, _*_, _/_, _%_, _^_, _<_, _≤_}
 use native.Mathlib.Omega.{arith}
 use mathlib.Core.Path.{_≡_, refl, sym, ap, subst, _∙_}
-use mathlib.Core.Bool.{Bool, true, false, not, _&&_, _||_, false≢true}
+use mathlib.Core.Bool.{Bool, true, false, not, _&&_, _||_, Bool·beq, false≢true}
 use mathlib.Core.List.{List, [], _∷_, _++_}
 use mathlib.Core.Logic.{⊎-elim}
-use lib.Dec.{ltb, eqb}
+use lib.Dec.{ltb, eqb, eqb·zero-suc, eqb·suc-zero}
 use lib.ListN.{length, getD, drop}
-use borrow.Author.Tests.{ltb-true, ltb-false, eqb-true, eqb-false, eq-eqb, ne-eqb}
+use borrow.Author.Tests.{ltb-true, ltb-false, eqb-true, eqb-false, eq-eqb}
 use Rattle.tables.specs.Count.{numberOf}
 use Rattle.tables.specs.Key.{Key, relation, sameKey}
 use Rattle.tables.specs.Office.{View}
@@ -26,7 +26,7 @@ use Rattle.paths.proofs.Tests.{and-left, and-right, both, or-cases}
 use Rattle.meaning.specs.Paths.{Side, rightKind, category, deed, member, contained, applies, step, carries, path, pairs, spell, firsts, isPath}
 use Rattle.meaning.proofs.Spelling.{spelt, spell-long}
 use Rattle.ask.specs.Asked.{sideOf, badOffice}
-use Rattle.ask.specs.Listed.{rowOf, everySecond, plainFrom, framed, wayFrom, goesOn}
+use Rattle.ask.specs.Listed.{rowOf, everySecond, hasSecond, framed, wayFrom, goesOn}
 use Rattle.ask.specs.Placed.{AtOffice}
 use Rattle.ask.proofs.Deciding.{words-of, side-grant, side-ban}
 
@@ -110,42 +110,39 @@ module _ (g : View) where
 
 -- ---- every second word
 
-module _ (ws : List ℕ) where
-  among-turn : (c at left : ℕ) → 0 < left → among c (everySecond ws at left) ≡ (eqb c (getD ws at 0) || among c (everySecond ws (at + 2) (left - 1)))
-  among-turn c at zero l = absurd (omega (arith, l))
-  among-turn c at (suc left) l =
+module _ (ws : List ℕ) (c : ℕ) (same : Bool) where
+  second-turn : (at left : ℕ) → 0 < left → hasSecond ws c same at left ≡ (Bool·beq (eqb c (getD ws at 0)) same || hasSecond ws c same (at + 2) (left - 1))
+  second-turn at zero l = absurd (omega (arith, l))
+  second-turn at (suc left) l =
       let e : at + 2 ≡ suc (suc at) = omega arith in
       let d : suc left - 1 ≡ left = omega arith in
       rw (e, d) refl
 
-  plain-turn : (at left : ℕ) → 0 < left → plainFrom ws at left ≡ (eqb (getD ws at 0) 0 && plainFrom ws (at + 2) (left - 1))
-  plain-turn at zero l = absurd (omega (arith, l))
-  plain-turn at (suc left) l =
-      let e : at + 2 ≡ suc (suc at) = omega arith in
-      let d : suc left - 1 ≡ left = omega arith in
-      rw (e, d) refl
+  pub second-by : (at left : ℕ) (b : Bool) → 0 < left → Bool·beq (eqb c (getD ws at 0)) same ≡ b → hasSecond ws c same at left ≡ (b || hasSecond ws c same (at + 2) (left - 1))
+  second-by at left b l e = second-turn at left l ∙ ap (λ (x : Bool). x || hasSecond ws c same (at + 2) (left - 1)) e
 
-  pub among-here : (c at left : ℕ) → 0 < left → c ≡ getD ws at 0 → among c (everySecond ws at left) ≡ true
-  among-here c at left l e = among-turn c at left l ∙ ap (λ (b : Bool). b || among c (everySecond ws (at + 2) (left - 1))) (eq-eqb c _ e)
+  pub second-none : (at left : ℕ) → left ≤ 0 → hasSecond ws c same at left ≡ false
+  second-none at left l = let e : left ≡ 0 = omega arith in rw e refl
 
-  pub among-on : (c at left : ℕ) → 0 < left → (c ≡ getD ws at 0 → ⊥) → among c (everySecond ws at left) ≡ among c (everySecond ws (at + 2) (left - 1))
-  among-on c at left l n = among-turn c at left l ∙ ap (λ (b : Bool). b || among c (everySecond ws (at + 2) (left - 1))) (ne-eqb c _ n)
+same-true : (b : Bool) → Bool·beq b true ≡ b
+same-true true = refl
+same-true false = refl
 
-  pub plain-not : (at left : ℕ) → 0 < left → (getD ws at 0 ≡ 0 → ⊥) → plainFrom ws at left ≡ false
-  plain-not at left l n = plain-turn at left l ∙ ap (λ (b : Bool). b && plainFrom ws (at + 2) (left - 1)) (ne-eqb (getD ws at 0) 0 n)
+second-among : (ws : List ℕ) (c at m : ℕ) → among c (everySecond ws at m) ≡ hasSecond ws c true at m
+second-among ws c at zero = refl
+second-among ws c at (suc m) = rw (same-true (eqb c (getD ws at 0)), second-among ws c (suc (suc at)) m) refl
 
-  pub plain-on : (at left : ℕ) → 0 < left → getD ws at 0 ≡ 0 → plainFrom ws at left ≡ plainFrom ws (at + 2) (left - 1)
-  plain-on at left l e = plain-turn at left l ∙ ap (λ (b : Bool). b && plainFrom ws (at + 2) (left - 1)) (eq-eqb (getD ws at 0) 0 e)
+-- every second word is 0, m of them from a place on
+abbrev plainFrom : List ℕ → ℕ → ℕ → Bool
+plainFrom ws at m = not (hasSecond ws 0 false at m)
 
-  pub among-none : (c at left : ℕ) → left ≤ 0 → among c (everySecond ws at left) ≡ false
-  among-none c at left l = let e : left ≡ 0 = omega arith in rw e refl
+plain-first : (y : ℕ) (b : Bool) → not (Bool·beq (eqb 0 y) false || b) ≡ (eqb y 0 && not b)
+plain-first zero b = refl
+plain-first (suc y) b = rw (eqb·zero-suc y, eqb·suc-zero y) refl
 
-  pub plain-none : (at left : ℕ) → left ≤ 0 → plainFrom ws at left ≡ true
-  plain-none at left l = let e : left ≡ 0 = omega arith in rw e refl
-
-plain-shift : (x : ℕ) (ws : List ℕ) (at m : ℕ) → plainFrom (x ∷ ws) (suc at) m ≡ plainFrom ws at m
+plain-shift : (x : ℕ) (ws : List ℕ) (at m : ℕ) → hasSecond (x ∷ ws) 0 false (suc at) m ≡ hasSecond ws 0 false at m
 plain-shift x ws at zero = refl
-plain-shift x ws at (suc m) = ap (λ (b : Bool). eqb (getD ws at 0) 0 && b) (plain-shift x ws (suc (suc at)) m)
+plain-shift x ws at (suc m) = ap (λ (b : Bool). Bool·beq (eqb 0 (getD ws at 0)) false || b) (plain-shift x ws (suc (suc at)) m)
 
 second-shift : (x : ℕ) (ws : List ℕ) (at m : ℕ) → everySecond (x ∷ ws) (suc at) m ≡ everySecond ws at m
 second-shift x ws at zero = refl
@@ -195,7 +192,7 @@ rest-same (suc m) (suc zero) ws d f q e = absurd (omega (arith, q))
 rest-same (suc m) (suc (suc n)) [] d f q e = absurd (omega (arith, e))
 rest-same (suc m) (suc (suc n)) (x ∷ []) d f q e = absurd (omega (arith, e))
 rest-same (suc m) (suc (suc n)) (x ∷ y ∷ ws) d f q e =
-    rw (eq-eqb x x refl, plain-shift x (y ∷ ws) 2 m, plain-shift y ws 1 m, rest-same m n ws d f (omega (arith, q)) (omega (arith, e)))
+    rw (eq-eqb x x refl, plain-first y (hasSecond (x ∷ y ∷ ws) 0 false 3 m), plain-shift x (y ∷ ws) 2 m, plain-shift y ws 1 m, rest-same m n ws d f (omega (arith, q)) (omega (arith, e)))
     (and-assoc (eqb y 0) (plainFrom ws 1 m) _)
 
 module _ (g : View) (side : Side) (p d f : ℕ) where
@@ -215,7 +212,7 @@ module _ (g : View) (side : Side) (p d f : ℕ) where
       (ap (λ (b : Bool). eqb x p && (eqb y 0 && b)) (rest-same (suc m) (suc (suc n)) ws d f (omega arith) (omega arith))
       ∙ third-last (eqb x p) (eqb y 0) (plainFrom ws 1 (suc m)) _
       ∙ ap (λ (b : Bool). (eqb x p && (eqb y 0 && (eqb (getD ws (suc (suc n)) 0) d && (eqb (getD ws (suc (suc (suc (suc n)))) 0) f && eqb (getD ws (suc (suc (suc (suc (suc n))))) 0) 0)))) && b)
-      (sym (plain-shift y ws 1 (suc m)) ∙ sym (plain-shift x (y ∷ ws) 2 (suc m))))
+      (ap not (sym (plain-shift y ws 1 (suc m)) ∙ sym (plain-shift x (y ∷ ws) 2 (suc m)))))
 
   back-same : (x y : ℕ) (ws : List ℕ) (m v : ℕ) → length ws ≡ 6 + 2 * m → path g side p d f (firsts (suc m) ws) v ≡ (member g p (getD ws 0 0) && wayFrom g side d v f (x ∷ y ∷ ws) 2 m)
   unfolding path wayFrom
@@ -253,13 +250,15 @@ module _ (g : View) (side : Side) (p d f : ℕ) where
 -- ---- the way by the categories, tried from its end
 
 module _ (g : View) (side : Side) (ws : List ℕ) (at m : ℕ) where
-  pub goes-again : among (getD ws at 0) (everySecond ws (at + 2) m) ≡ true → false ≡ goesOn g side ws at m
+  goes-by : (b : Bool) → hasSecond ws (getD ws at 0) true (at + 2) m ≡ b → goesOn g side ws at m ≡ (step g side (getD ws at 0) (getD ws (at + 2) 0) && not b)
   unfolding goesOn
-  goes-again e = sym (ap (λ (x : Bool). step g side (getD ws at 0) (getD ws (at + 2) 0) && not x) e ∙ and-swap (step g side (getD ws at 0) (getD ws (at + 2) 0)) false)
+  goes-by b e = ap (λ (x : Bool). step g side (getD ws at 0) (getD ws (at + 2) 0) && not x) (second-among ws (getD ws at 0) (at + 2) m ∙ e)
 
-  pub goes-new : (r : Bool) → among (getD ws at 0) (everySecond ws (at + 2) m) ≡ false → r ≡ step g side (getD ws at 0) (getD ws (at + 2) 0) → r ≡ goesOn g side ws at m
-  unfolding goesOn
-  goes-new r e q = q ∙ sym (ap (λ (x : Bool). step g side (getD ws at 0) (getD ws (at + 2) 0) && not x) e ∙ and-true (step g side (getD ws at 0) (getD ws (at + 2) 0)))
+  pub goes-again : hasSecond ws (getD ws at 0) true (at + 2) m ≡ true → false ≡ goesOn g side ws at m
+  goes-again e = sym (goes-by true e ∙ and-swap (step g side (getD ws at 0) (getD ws (at + 2) 0)) false)
+
+  pub goes-new : (r : Bool) → hasSecond ws (getD ws at 0) true (at + 2) m ≡ false → r ≡ step g side (getD ws at 0) (getD ws (at + 2) 0) → r ≡ goesOn g side ws at m
+  goes-new r e q = q ∙ sym (goes-by false e ∙ and-true (step g side (getD ws at 0) (getD ws (at + 2) 0)))
 
 module _ (g : View) (side : Side) (d v f : ℕ) (ws : List ℕ) where
   pub way-end : (at : ℕ) → wayFrom g side d v f ws at 0 ≡ carries g side d v f (getD ws at 0)

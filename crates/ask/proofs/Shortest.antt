@@ -6,7 +6,6 @@ use native.Mathlib.Decide.{decLt}
 use mathlib.Core.Path.{_≡_, refl, sym, ap, subst, _∙_}
 use mathlib.Core.Bool.{true, false, false≢true}
 use mathlib.Core.List.{List, [], _∷_}
-use lib.Dec.{eqb, ltb}
 use lib.ListN.{length}
 use borrow.Author.Tests.{le-ltb, ne-eqb, eq-eqb}
 use Rattle.tables.specs.Key.{Key, belowKey}
@@ -17,7 +16,7 @@ use Rattle.sheet.specs.Accepted.{Accepted}
 use Rattle.sheet.specs.Named.{seenAt}
 use Rattle.paths.specs.Best.{Trail, ends, goes, Before, less, same, Best}
 use Rattle.paths.proofs.Tests.{both}
-use Rattle.meaning.specs.Paths.{Side, person, category, deed, folio, member, path, spell, isPath}
+use Rattle.meaning.specs.Paths.{Side, person, category, deed, folio, path, spell, isPath}
 use Rattle.meaning.specs.Forms.{fewer}
 use Rattle.meaning.specs.Questions.{WitnessIs}
 use Rattle.meaning.proofs.Spelling.{spells, spell-long}

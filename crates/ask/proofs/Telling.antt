@@ -3,7 +3,7 @@
 use Prim.Native.Nat.{ℕ, zero, suc, _+_, _-_, _^_, _<_, _≤_}
 use native.Mathlib.Omega.{arith}
 use mathlib.Core.Path.{_≡_, refl, sym, ap, subst, _∙_}
-use mathlib.Core.Bool.{false, not}
+use mathlib.Core.Bool.{false}
 use mathlib.Core.List.{List, _++_}
 use lib.Dec.{ltb}
 use lib.ListN.{length, take, drop}
@@ -22,7 +22,6 @@ use Rattle.meaning.specs.Questions.{WitnessIs}
 use Rattle.ask.specs.declared.Question.{Question}
 use Rattle.ask.specs.declared.Answer.{Answer}
 use Rattle.ask.specs.declared.Places.{Places}
-use Rattle.ask.specs.declared.Stand.{Stand}
 use Rattle.ask.specs.Asked.{unknown, badOffice, askFault, plain, afterSheet}
 use Rattle.ask.specs.Placed.{FoundAll, unfound, StandsSo}
 use Rattle.ask.specs.Replies.{refusedBy, tells, Replies, refused, answered, Shows, written, short, missing}

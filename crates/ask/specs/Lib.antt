@@ -4,3 +4,4 @@ pub mod Placed
 pub mod Replies
 pub mod Passing
 pub mod Listed
+pub mod Promises

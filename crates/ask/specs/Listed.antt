@@ -1,7 +1,7 @@
 -- Question 4: what the inner functions tell of a lent list of words. Number and variant of category j are the words 2 + 2 * j and 3 + 2 * j.
 -- Assumes nothing.
 use Prim.Native.Nat.{ℕ, zero, suc, _+_, _*_, _/_, _%_}
-use mathlib.Core.Bool.{Bool, true, not, _&&_}
+use mathlib.Core.Bool.{Bool, false, not, _&&_, _||_, Bool·beq}
 use mathlib.Core.List.{List, [], _∷_}
 use lib.ListN.{getD}
 use Rattle.tables.specs.Key.{sameKey}
@@ -22,10 +22,10 @@ abbrev pub everySecond : List ℕ → ℕ → ℕ → List ℕ
 everySecond ws at zero = []
 everySecond ws at (suc m) = getD ws at 0 ∷ everySecond ws (suc (suc at)) m
 
--- every second word is 0, m of them from a place on
-abbrev pub plainFrom : List ℕ → ℕ → ℕ → Bool
-plainFrom ws at zero = true
-plainFrom ws at (suc m) = getD ws at 0 is 0 && plainFrom ws (suc (suc at)) m
+-- one of every second word, m of them from a place on, is c, or is not c where `same` is false
+abbrev pub hasSecond : List ℕ → ℕ → Bool → ℕ → ℕ → Bool
+hasSecond ws c same at zero = false
+hasSecond ws c same at (suc m) = Bool·beq (c is getD ws at 0) same || hasSecond ws c same (suc (suc at)) m
 
 -- the first two words are the person's, and the last four the deed's, by any variant, and the folio's, with m categories after the first
 unfoldable pub framed : List ℕ → ℕ → ℕ → ℕ → ℕ → Bool

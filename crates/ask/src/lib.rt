@@ -9,13 +9,12 @@ ghost use Prim.Native.Nat.{ℕ, suc, _+_, _-_, _*_, _/_, _%_, _^_, _<_, _≤_};
 ghost use lib.ListN.{length, getD, take, drop};
 ghost use mathlib.Core.List.{_++_};
 ghost use Rattle.tables.specs.Count.{numberOf};
-ghost use Rattle.tables.specs.Key.{identity, relation};
+ghost use Rattle.tables.specs.Key.{relation};
 ghost use Rattle.sheet.specs.Limits.{maxOffices, maxNodes};
 ghost use Rattle.sheet.specs.Refusals.{_is_, none};
 ghost use Rattle.sheet.specs.Rows.{headerOf, nodeKey};
 ghost use Rattle.sheet.specs.Accepted.{NodesFormed, WellFormed, Accepted};
 ghost use Rattle.sheet.specs.Named.{seenAt};
-ghost use Rattle.paths.specs.Leads.{among};
 ghost use Rattle.paths.specs.Steps.{Layers};
 ghost use Rattle.walk.specs.Arcs.{Steps};
 ghost use Rattle.meaning.specs.Paths.{rightKind, HasPath, member, step, carries, isPath};
@@ -24,7 +23,8 @@ ghost use Rattle.meaning.specs.Questions.{WitnessIs};
 ghost use Rattle.ask.specs.Asked.{FirstStanding, stands, badOffice, askFault, jointFault, plain, afterSheet, sideOf};
 ghost use Rattle.ask.specs.Placed.{Placed, AtOffice, FoundAll, unfound, StandsSo};
 ghost use Rattle.ask.specs.Replies.{refusedBy, tells, Replies, Shows};
-ghost use Rattle.ask.specs.Listed.{rowOf, everySecond, plainFrom, framed, wayFrom, goesOn};
+ghost use Rattle.ask.specs.Promises.{AnswersAtOffice, AnswersJointly, Witnesses, TellsPath};
+ghost use Rattle.ask.specs.Listed.{rowOf, hasSecond, framed, wayFrom, goesOn};
 ghost use Rattle.ask.specs.Passing.{passing, telling};
 ghost use Rattle.ask.specs.Written.{nodeWords, RowsIn, Measured, PathRows};
 
@@ -332,7 +332,7 @@ fn answer_checked(sheet: &[u32], edges: &[u32], h: Header, q: Question) -> Answe
 
 // Question 1, the answer at an office: 0 Undetermined, 1 Granted, 2 Banned, 3 Both, in `value`.
 pub fn answer_at_office(sheet: &[u32], q: Question) -> Answer
-    ensures { λ a. ⌜ Replies (afterSheet (now (sheet .entry)) (askFault (now (sheet .entry)) q)) (λ value count. AnswerIs (seenAt (now (sheet .entry)) (q .office)) (q .person) (q .deed) (q .folio) value × (count ≡ 0)) a ⌝ }
+    ensures { λ a. ⌜ AnswersAtOffice (afterSheet (now (sheet .entry))) (now (sheet .entry)) q a ⌝ }
 {
     let r = verdict::check(sheet);
     if r.number != 0 {
@@ -447,7 +447,7 @@ fn joint_checked(sheet: &[u32], edges: &[u32], h: Header, q: Question) -> Answer
 
 // Question 2, the joint answer under rule 1, 2 or 3: the answer in `value`, the deciding office in `count`.
 pub fn joint_answer(sheet: &[u32], q: Question) -> Answer
-    ensures { λ a. ⌜ Replies (afterSheet (now (sheet .entry)) (jointFault (now (sheet .entry)) q)) (λ value count. JointIs (seenAt (now (sheet .entry))) (headerOf (now (sheet .entry)) .offices) (q .rule) (q .person) (q .deed) (q .folio) (record { answer = value; office = count })) a ⌝ }
+    ensures { λ a. ⌜ AnswersJointly (afterSheet (now (sheet .entry))) (now (sheet .entry)) q a ⌝ }
 {
     let r = verdict::check(sheet);
     if r.number != 0 {
@@ -538,7 +538,7 @@ fn witness_checked(sheet: &[u32], edges: &[u32], h: Header, q: Question, out: &m
 
 // Question 3, the witness of a grant or a ban: the path with fewest nodes, first in dictionary order, two words a node; how many words in `count`.
 pub fn witness(sheet: &[u32], q: Question, out: &mut [u32]) -> Answer
-    ensures { λ a. ⌜ Shows (afterSheet (now (sheet .entry)) (askFault (now (sheet .entry)) q)) (WitnessIs (seenAt (now (sheet .entry)) (q .office)) (sideOf (q .kind)) (q .person) (q .deed) (q .folio)) (now (out .entry)) a (now (out .exit)) ⌝ }
+    ensures { λ a. ⌜ Witnesses (now (sheet .entry)) q (now (out .entry)) a (now (out .exit)) ⌝ }
 {
     let r = verdict::check(sheet);
     if r.number != 0 {
@@ -649,38 +649,21 @@ fn is_carried(
         & is_related(sheet, edges, h, k, mark, 5, b, t)
 }
 
-// Whether a number is one of every second word, m of them from a place on.
-fn is_among(list: &[u32], from: usize, m: usize, c: u32) -> bool
+// Whether one of every second word, m of them from a place on, is c, or is not c where `same` is false.
+fn has_second(list: &[u32], from: usize, m: usize, c: u32, same: bool) -> bool
     requires { ⌜ from + 2 * m ≤ length (now list) ⌝ }
-    ensures { λ r. ⌜ r ≡ among c (everySecond (now (list .entry)) from m) ⌝ }
+    ensures { λ r. ⌜ r ≡ hasSecond (now (list .entry)) c same from m ⌝ }
 {
     let mut at = from;
     let mut left = m;
     while 0 < left {
-        if c == list[at] {
+        if (c == list[at]) == same {
             return true;
         }
         at += 2;
         left -= 1;
     }
     false
-}
-
-// Whether every second word is 0, m of them from a place on.
-fn is_plain(list: &[u32], from: usize, m: usize) -> bool
-    requires { ⌜ from + 2 * m ≤ length (now list) ⌝ }
-    ensures { λ r. ⌜ r ≡ plainFrom (now (list .entry)) from m ⌝ }
-{
-    let mut at = from;
-    let mut left = m;
-    while 0 < left {
-        if list[at] != 0 {
-            return false;
-        }
-        at += 2;
-        left -= 1;
-    }
-    true
 }
 
 // Whether the words before and behind the categories, m of them after the first, are the question's person, deed and folio.
@@ -711,7 +694,7 @@ fn is_onward(
 {
     let c = list[at];
     let d = list[at + 2];
-    if is_among(list, at + 2, m, c) {
+    if has_second(list, at + 2, m, c, true) {
         return false;
     }
     is_step(sheet, edges, h, k, mark, kind, c, d)
@@ -768,7 +751,7 @@ fn is_path_at(
     if !is_framed(list, m, q) {
         return false;
     }
-    if !is_plain(list, 3, m + 1) {
+    if has_second(list, 3, m + 1, 0, false) {
         return false;
     }
     if !is_member(sheet, edges, h, k, mark, q.person, list[2]) {
@@ -796,7 +779,7 @@ fn is_path_checked(sheet: &[u32], edges: &[u32], h: Header, q: Question, list: &
 
 // Question 4, whether a list of words is some grant or ban path: 1 yes, 0 no, in `value`.
 pub fn is_path(sheet: &[u32], q: Question, list: &[u32]) -> Answer
-    ensures { λ a. ⌜ Replies (afterSheet (now (sheet .entry)) (badOffice (headerOf (now (sheet .entry))) (q .office))) (λ value count. (value ≡ numberOf (isPath (seenAt (now (sheet .entry)) (q .office)) (sideOf (q .kind)) (q .person) (q .deed) (q .folio) (now (list .entry)))) × (count ≡ 0)) a ⌝ }
+    ensures { λ a. ⌜ TellsPath (now (sheet .entry)) q (now (list .entry)) a ⌝ }
 {
     let r = verdict::check(sheet);
     if r.number != 0 {

@@ -3,7 +3,7 @@ use sheet::MAX_WORDS;
 use sheet::Refusal;
 ghost use mathlib.Core.Path.{_≡_};
 ghost use mathlib.Core.List.{_++_};
-ghost use Prim.Native.Nat.{ℕ, _+_, _*_, _/_, _≤_};
+ghost use Prim.Native.Nat.{_+_, _*_, _/_, _≤_};
 ghost use lib.ListN.{length, drop, getD};
 ghost use lib.Seq.{sets};
 ghost use Rattle.sheet.specs.Limits.{maxBytes};
@@ -105,7 +105,7 @@ pub fn encode(words: &[u32], bytes: &mut [u8]) -> Refusal
 }
 
 // 33, of a file of so many bytes.
-fn bytes_fault(length: usize) -> u32
+pub fn bytes_fault(length: usize) -> u32
     ensures { λ r. ⌜ r ≡ bytesFault length ⌝ }
 {
     if (length % 4 != 0) | (MAX_BYTES < length) {

@@ -83,3 +83,7 @@ pub data Joins (refusal : Refusal) (a b out : List ℕ) : Joined → List ℕ �
       → headerOf j .nodes + sharedNodes a b ≡ headerOf a .nodes + headerOf b .nodes
       → headerOf j .edges + sharedEdges a b ≡ headerOf a .edges + headerOf b .edges
       → length j ≤ length out → Joins refusal a b out (tells a b j) (j ++ drop (length j) out)
+
+-- what joining promises: of the two sheets, the lent output before, the result, and the output after
+abbrev pub Joining : List ℕ → List ℕ → List ℕ → Joined → List ℕ → Type 0
+Joining a b out r out′ = Joins (joinFault a b (length out)) a b out r out′

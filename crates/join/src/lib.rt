@@ -7,7 +7,7 @@ ghost use Prim.Native.Nat.{_+_, _-_, _*_, _<_, _≤_};
 ghost use lib.ListN.{length};
 ghost use Rattle.sheet.specs.Limits.{maxNodes, maxEdges, sheetWords};
 ghost use Rattle.merge.specs.Lent.{Mergeable, SideBySide, Counts};
-ghost use Rattle.join.specs.Joined.{tooMuch, sheetsFault, unionFault, joinFault, refusedBy, Joins};
+ghost use Rattle.join.specs.Joined.{tooMuch, sheetsFault, unionFault, refusedBy, Joins, Joining};
 ghost use Rattle.join.specs.Laid.{jointShift, Joinable, Laid};
 
 // The offices of two sheets that have one each.
@@ -30,7 +30,7 @@ pub struct Joined {
 }
 
 // A refusal's number and place, and nothing else.
-fn refused(r: Refusal) -> Joined
+pub fn refused(r: Refusal) -> Joined
     ensures { λ a. ⌜ a ≡ refusedBy r ⌝ }
 {
     Joined {
@@ -171,7 +171,7 @@ fn join_checked(first: &[u32], h: Header, second: &[u32], g: Header, out: &mut [
 
 // Joins two one-office sheets into a lent output, which a refusal leaves as it is. The two may be the same slice.
 pub fn join(first: &[u32], second: &[u32], out: &mut [u32]) -> Joined
-    ensures { λ r. ⌜ Joins (joinFault (now (first .entry)) (now (second .entry)) (length (now (out .entry)))) (now (first .entry)) (now (second .entry)) (now (out .entry)) r (now (out .exit)) ⌝ }
+    ensures { λ r. ⌜ Joining (now (first .entry)) (now (second .entry)) (now (out .entry)) r (now (out .exit)) ⌝ }
 {
     let r = refusal_of(first, second);
     if r.number != 0 {

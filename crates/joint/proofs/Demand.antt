@@ -13,27 +13,25 @@ use Rattle.sheet.specs.Named.{seenAt}
 use Rattle.sheet.specs.Verdict.{verdict}
 use Rattle.sheet.proofs.Accepting.{not-refused}
 use Rattle.sheet.proofs.Refusing.{else-none, then-good, then-none}
-use Rattle.meaning.specs.Answers.{AnswerIs, AnswersAre, JointIs, jointly}
+use Rattle.meaning.specs.Answers.{AnswerIs, AnswersAre, jointly}
 use Rattle.meaning.specs.Join.{officesOf, IsJoin, IsTaken}
 use Rattle.meaning.proofs.Joins.{pair-one, parts-join, joint-answer}
 use Rattle.ask.specs.declared.Answer.{Answer}
 use Rattle.ask.specs.declared.Question.{Question}
 use Rattle.ask.specs.Asked.{unknown, askFault, jointFault, plain, afterSheet}
-use Rattle.ask.specs.Replies.{tells, Replies, refused, answered}
+use Rattle.ask.specs.Promises.{AnswersAtOffice, AnswersJointly, atFirst}
+use Rattle.ask.specs.Replies.{tells, refused, answered}
 use Rattle.ask.proofs.Telling.{plain-none, office-fits}
 use Rattle.ask.proofs.Placing.{unknown-undetermined}
 use Rattle.ask.proofs.Single.{replies-one, joint-single}
-use Rattle.takeout.proofs.Back.{Takes, Stands, first-taken, second-taken}
+use Rattle.takeout.specs.Promises.{TakesOut}
+use Rattle.takeout.proofs.Back.{Stands, first-taken, second-taken}
 use Rattle.join.specs.declared.Joined.{Joined}
-use Rattle.join.specs.Joined.{sharedNodes, sharedEdges, sheetsFault, unionFault, joinFault, Joins, refused, joined}
+use Rattle.join.specs.Joined.{sharedNodes, sharedEdges, sheetsFault, unionFault, joinFault, Joining, refused, joined}
 use Rattle.join.specs.Laid.{Joinable}
 use Rattle.join.proofs.Refusing.{first-opens, second-opens, none-refused, in-none, union-passes, joins-next}
 use Rattle.join.proofs.Single.{joins-one}
 use Rattle.joint.proofs.Counting.{nodes-counted, edges-counted, nodes-union, edges-union}
-
--- what join's statement says of its result and its output
-abbrev pub Joining : List ℕ → List ℕ → List ℕ → Joined → List ℕ → Type 0
-Joining a b out r out′ = Joins (joinFault a b (length out)) a b out r out′
 
 -- sheets whose join is not refused were accepted, and have one office each
 joinable : (a b : List ℕ) (room : ℕ) → joinFault a b room .number ≡ 0 → Joinable a (headerOf a) × Joinable b (headerOf b)
@@ -49,8 +47,8 @@ pub record ComesBack (a b out out′ : List ℕ) : Type 0 where
   pub sheet : List ℕ
   pub joins : IsJoin a b sheet
   pub holds : out′ ≡ sheet ++ drop (length sheet) out
-  pub first : (lent : List ℕ) {x : Answer} {lent′ : List ℕ} → length a ≤ length lent → Takes sheet 1 lent x lent′ → Stands a lent x lent′
-  pub second : (lent : List ℕ) {x : Answer} {lent′ : List ℕ} → length b ≤ length lent → Takes sheet 2 lent x lent′ → Stands b lent x lent′
+  pub first : (lent : List ℕ) {x : Answer} {lent′ : List ℕ} → length a ≤ length lent → TakesOut sheet 1 lent x lent′ → Stands a lent x lent′
+  pub second : (lent : List ℕ) {x : Answer} {lent′ : List ℕ} → length b ≤ length lent → TakesOut sheet 2 lent x lent′ → Stands b lent x lent′
 
 -- with room, each input comes back exactly, word for word
 pub comes-back : (a b out : List ℕ) {r : Joined} {out′ : List ℕ} → Joining a b out r out′ → r .number ≡ 0 → ComesBack a b out out′
@@ -116,18 +114,6 @@ module _ (s p q : List ℕ) (acc : Accepted s) (two : officesOf s ≡ 2) (x : Is
 
 -- ---- the joint answer
 
--- what question 1's statement says of its answer
-abbrev pub Asks : List ℕ → Question → Answer → Type 0
-Asks s q x = Replies (afterSheet s (askFault s q)) (λ value count. AnswerIs (seenAt s (q .office)) (q .person) (q .deed) (q .folio) value × (count ≡ 0)) x
-
--- what question 2's statement says of its answer
-abbrev pub AsksJointly : List ℕ → Question → Answer → Type 0
-AsksJointly s q x = Replies (afterSheet s (jointFault s q)) (λ value count. JointIs (seenAt s) (headerOf s .offices) (q .rule) (q .person) (q .deed) (q .folio) (record { answer = value; office = count })) x
-
--- the question, asked at office 1
-abbrev pub atFirst : Question → Question
-atFirst q = record { office = 1; rule = q .rule; kind = q .kind; person = q .person; category = q .category; deed = q .deed; other = q .other; folio = q .folio }
-
 -- nothing refuses a question of an accepted sheet that has no fault of its own
 not-refusing : (s : List ℕ) (k : ℕ) → Accepted s → k ≡ 0 → afterSheet s k .number ≡ 0
 unfolding afterSheet
@@ -139,7 +125,7 @@ unfolding askFault
 known-asked s q one e = else-none _ _ (office-fits (headerOf s) 1 0 refl (omega (arith, one))) ∙ e
 
 -- the value that question 1 tells of a sheet of one office is the office's answer; where it refuses, the office does not know one of the three, and is undetermined
-pub own-answer : (s : List ℕ) → Accepted s → officesOf s ≡ 1 → (q : Question) {x : Answer} → Asks s (atFirst q) x → AnswerIs (seenAt s 1) (q .person) (q .deed) (q .folio) (x .value)
+pub own-answer : (s : List ℕ) → Accepted s → officesOf s ≡ 1 → (q : Question) {x : Answer} → AnswersAtOffice (afterSheet s) s (atFirst q) x → AnswerIs (seenAt s 1) (q .person) (q .deed) (q .folio) (x .value)
 own-answer s acc one q (refused h) = unknown-undetermined s acc 1 (atFirst q) (λ e. h (not-refusing s _ acc (known-asked s q one e)))
 own-answer s acc one q (answered v c z p) = p .0
 
@@ -157,12 +143,12 @@ Combines rule v w x = x ≡ tells (jointly rule (v ∷ w ∷ []) .answer) (joint
 
 module _ (a b j : List ℕ) (x : IsJoin a b j) (va : Accepted a) (vb : Accepted b) (one : officesOf a ≡ 1) (other : officesOf b ≡ 1) (q : Question) (known : jointFault j q ≡ 0) where
   -- for every question on known numbers, the joint sheet's answer under each rule equals the rule over the two offices' own answers
-  pub answers-combined : (v w : ℕ) → AnswerIs (seenAt a 1) (q .person) (q .deed) (q .folio) v → AnswerIs (seenAt b 1) (q .person) (q .deed) (q .folio) w → {r : Answer} → AsksJointly j q r → Combines (q .rule) v w r
+  pub answers-combined : (v w : ℕ) → AnswerIs (seenAt a 1) (q .person) (q .deed) (q .folio) v → AnswerIs (seenAt b 1) (q .person) (q .deed) (q .folio) w → {r : Answer} → AnswersJointly (afterSheet j) j q r → Combines (q .rule) v w r
   answers-combined v w y z r =
       replies-one _ _ (joint-single (seenAt j) (officesOf j) (q .rule) (q .person) (q .deed) (q .folio)) r
       (answered _ _ (not-refusing j _ (x .accepted) known)
       (joint-answer a b j x (q .rule) (q .person) (q .deed) (q .folio) (v ∷ []) (w ∷ []) (alone a _ _ _ v one y) (alone b _ _ _ w other z)))
 
   -- those are what question 1 tells of the sheets that were joined
-  pub asked-combined : {y z r : Answer} → Asks a (atFirst q) y → Asks b (atFirst q) z → AsksJointly j q r → Combines (q .rule) (y .value) (z .value) r
+  pub asked-combined : {y z r : Answer} → AnswersAtOffice (afterSheet a) a (atFirst q) y → AnswersAtOffice (afterSheet b) b (atFirst q) z → AnswersJointly (afterSheet j) j q r → Combines (q .rule) (y .value) (z .value) r
   asked-combined y z = answers-combined _ _ (own-answer a va one q y) (own-answer b vb other q z)

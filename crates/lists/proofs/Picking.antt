@@ -53,9 +53,6 @@ pub known-by : (s : List ℕ) (h : Header) (k class number r : ℕ) → h ≡ he
 unfolding known
 known-by s h k class number r e x = rw e (found-known _ _ r (subst (λ (y : Header). FirstStanding (stands s false (suc k) class number) (y .nodes) r) e x))
 
-pub known-office : (s : List ℕ) (office k class number : ℕ) (b : Bool) → office ≡ suc k → b ≡ known s false (suc k) class number → known s false office class number ≡ b
-known-office s office k class number b e q = rw e (sym q)
-
 pub fault-after : (number : ℕ) (s : List ℕ) (q : Question) (h : Header) → h ≡ headerOf s → badOffice h (q .office) ≡ 0
     → soughtFault number s q ≡ (unknownCategory s q when eqb number 5 otherwise unknownRight s q when eqb number 6 otherwise badPair s q when eqb number 9 otherwise 0)
 unfolding soughtFault _orElse_

@@ -1,3 +1,4 @@
 pub mod Sought
 pub mod Picked
 pub mod Handed
+pub mod Promises

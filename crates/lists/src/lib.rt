@@ -11,19 +11,20 @@ ghost use lib.ListN.{length, take, drop};
 ghost use mathlib.Core.List.{_++_};
 ghost use Rattle.tables.specs.Count.{numberOf};
 ghost use Rattle.sheet.specs.Limits.{maxNodes, maxEdges};
-ghost use Rattle.sheet.specs.Refusals.{_is_, _orElse_, none};
+ghost use Rattle.sheet.specs.Refusals.{_is_, _when_otherwise_, none};
 ghost use Rattle.sheet.specs.Rows.{headerOf, nodeAt};
 ghost use Rattle.sheet.specs.Accepted.{NodesFormed, WellFormed};
 ghost use Rattle.sheet.specs.Named.{seenAt};
 ghost use Rattle.walk.specs.Arcs.{Arranged};
 ghost use Rattle.meaning.specs.Forms.{Rising};
-ghost use Rattle.meaning.specs.Questions.{PersonsAre, HoldersAre, UnreachedAre, LeastBothIs, LeastPairIs, RedundantAre};
+ghost use Rattle.meaning.specs.Questions.{PersonsAre, HoldersAre, UnreachedAre};
 ghost use Rattle.ask.specs.Asked.{known, badOffice, plain, afterSheet};
 ghost use Rattle.ask.specs.Placed.{AtOffice};
 ghost use Rattle.ask.specs.Replies.{Shows};
 ghost use Rattle.reach.specs.Found.{noneFound, Finds};
 ghost use Rattle.lists.specs.Handed.{Handed};
 ghost use Rattle.lists.specs.Sought.{unknownCategory, unknownRight, badPair, soughtFault, soughtIs};
+ghost use Rattle.lists.specs.Promises.{ListsPersons, ListsHolders, ListsUnreached, ShowsLeastBoth, ShowsLeastPair, ListsRedundant};
 ghost use Rattle.reach.specs.Reaching.{Tells, LeadsTo, Started};
 ghost use Rattle.lists.specs.Picked.{PersonLeads, PersonsReach, PersonsLead, wanted, PickedNumber};
 
@@ -262,15 +263,32 @@ fn is_known(sheet: &[u32], h: Header, k: u32, mark: u32, class: u32, number: u32
     ask::seek(sheet, h, false, k, mark, class, number) < h.nodes
 }
 
+// A line of the table: its fault where office k + 1 does not know a type and number, else what the lines after it say.
+fn unknown_line(
+    sheet: &[u32],
+    h: Header,
+    k: u32,
+    mark: u32,
+    class: u32,
+    number: u32,
+    fault: u32,
+    after: u32,
+) -> u32
+    requires { ⌜ NodesFormed (now sheet) h × (h ≡ headerOf (now sheet)) × (mark ≡ 2 ^ k) × (0 < mark) ⌝ }
+    ensures { λ r. ⌜ r ≡ (fault when not (known (now (sheet .entry)) false (suc k) class number) otherwise after) ⌝ }
+{
+    if !is_known(sheet, h, k, mark, class, number) {
+        return fault;
+    }
+    after
+}
+
 // Question 5: 24 where office k + 1 does not know the category.
 fn unknown_category(sheet: &[u32], h: Header, k: u32, mark: u32, q: Question) -> u32
     requires { ⌜ NodesFormed (now sheet) h × (h ≡ headerOf (now sheet)) × (mark ≡ 2 ^ k) × (0 < mark) × (q .office ≡ suc k) ⌝ }
     ensures { λ r. ⌜ r ≡ unknownCategory (now (sheet .entry)) q ⌝ }
 {
-    if !is_known(sheet, h, k, mark, 2, q.category) {
-        return 24;
-    }
-    0
+    unknown_line(sheet, h, k, mark, 2, q.category, 24, 0)
 }
 
 // Question 6: 22, 23 where office k + 1 does not know the deed or the folio.
@@ -278,11 +296,16 @@ fn unknown_right(sheet: &[u32], h: Header, k: u32, mark: u32, q: Question) -> u3
     requires { ⌜ NodesFormed (now sheet) h × (h ≡ headerOf (now sheet)) × (mark ≡ 2 ^ k) × (0 < mark) × (q .office ≡ suc k) ⌝ }
     ensures { λ r. ⌜ r ≡ unknownRight (now (sheet .entry)) q ⌝ }
 {
-    if !is_known(sheet, h, k, mark, 3, q.deed) {
-        return 22;
-    }
-    if !is_known(sheet, h, k, mark, 4, q.folio) {
-        return 23;
+    let after = unknown_line(sheet, h, k, mark, 4, q.folio, 23, 0);
+    unknown_line(sheet, h, k, mark, 3, q.deed, 22, after)
+}
+
+// 31 where the two deeds are one.
+fn same_deed(q: Question) -> u32
+    ensures { λ r. ⌜ r ≡ (31 when q .deed is q .other otherwise 0) ⌝ }
+{
+    if q.deed == q.other {
+        return 31;
     }
     0
 }
@@ -292,16 +315,8 @@ fn bad_pair(sheet: &[u32], h: Header, k: u32, mark: u32, q: Question) -> u32
     requires { ⌜ NodesFormed (now sheet) h × (h ≡ headerOf (now sheet)) × (mark ≡ 2 ^ k) × (0 < mark) × (q .office ≡ suc k) ⌝ }
     ensures { λ r. ⌜ r ≡ badPair (now (sheet .entry)) q ⌝ }
 {
-    if !is_known(sheet, h, k, mark, 3, q.deed) {
-        return 22;
-    }
-    if !is_known(sheet, h, k, mark, 3, q.other) {
-        return 22;
-    }
-    if q.deed == q.other {
-        return 31;
-    }
-    0
+    let after = unknown_line(sheet, h, k, mark, 3, q.other, 22, same_deed(q));
+    unknown_line(sheet, h, k, mark, 3, q.deed, 22, after)
 }
 
 // What is refused of a question of office k + 1, by the question's number.
@@ -440,42 +455,42 @@ fn sought(number: u32, sheet: &[u32], q: Question, out: &mut [u32]) -> Answer
 
 // Question 5, the numbers of the persons in a category, directly or through containment, rising; how many in `count`.
 pub fn persons_in_category(sheet: &[u32], q: Question, out: &mut [u32]) -> Answer
-    ensures { λ a. ⌜ Shows (afterSheet (now (sheet .entry)) (badOffice (headerOf (now (sheet .entry))) (q .office) orElse unknownCategory (now (sheet .entry)) q)) (PersonsAre (seenAt (now (sheet .entry)) (q .office)) (q .category)) (now (out .entry)) a (now (out .exit)) ⌝ }
+    ensures { λ a. ⌜ ListsPersons (now (sheet .entry)) q (now (out .entry)) a (now (out .exit)) ⌝ }
 {
     sought(5, sheet, q, out)
 }
 
 // Question 6, the numbers of the persons who have a grant path for a deed and a folio, rising; how many in `count`.
 pub fn persons_with_grant(sheet: &[u32], q: Question, out: &mut [u32]) -> Answer
-    ensures { λ a. ⌜ Shows (afterSheet (now (sheet .entry)) (badOffice (headerOf (now (sheet .entry))) (q .office) orElse unknownRight (now (sheet .entry)) q)) (HoldersAre (seenAt (now (sheet .entry)) (q .office)) (q .deed) (q .folio)) (now (out .entry)) a (now (out .exit)) ⌝ }
+    ensures { λ a. ⌜ ListsHolders (now (sheet .entry)) q (now (out .entry)) a (now (out .exit)) ⌝ }
 {
     sought(6, sheet, q, out)
 }
 
 // Question 7, the numbers of the folios to which no person has a grant path by any deed, rising; how many in `count`.
 pub fn folios_out_of_reach(sheet: &[u32], q: Question, out: &mut [u32]) -> Answer
-    ensures { λ a. ⌜ Shows (afterSheet (now (sheet .entry)) (badOffice (headerOf (now (sheet .entry))) (q .office))) (UnreachedAre (seenAt (now (sheet .entry)) (q .office))) (now (out .entry)) a (now (out .exit)) ⌝ }
+    ensures { λ a. ⌜ ListsUnreached (now (sheet .entry)) q (now (out .entry)) a (now (out .exit)) ⌝ }
 {
     sought(7, sheet, q, out)
 }
 
 // Question 8, the least triple that is Both: person, deed and folio; 3 in `count`, 26 where there is none.
 pub fn least_triple(sheet: &[u32], q: Question, out: &mut [u32]) -> Answer
-    ensures { λ a. ⌜ Shows (afterSheet (now (sheet .entry)) (badOffice (headerOf (now (sheet .entry))) (q .office))) (LeastBothIs (seenAt (now (sheet .entry)) (q .office))) (now (out .entry)) a (now (out .exit)) ⌝ }
+    ensures { λ a. ⌜ ShowsLeastBoth (now (sheet .entry)) q (now (out .entry)) a (now (out .exit)) ⌝ }
 {
     sought(8, sheet, q, out)
 }
 
 // Question 9, the least person and folio with a grant path for each of two deeds; 2 in `count`, 26 where there is none.
 pub fn least_holder(sheet: &[u32], q: Question, out: &mut [u32]) -> Answer
-    ensures { λ a. ⌜ Shows (afterSheet (now (sheet .entry)) (badOffice (headerOf (now (sheet .entry))) (q .office) orElse badPair (now (sheet .entry)) q)) (LeastPairIs (seenAt (now (sheet .entry)) (q .office)) (q .deed) (q .other)) (now (out .entry)) a (now (out .exit)) ⌝ }
+    ensures { λ a. ⌜ ShowsLeastPair (now (sheet .entry)) q (now (out .entry)) a (now (out .exit)) ⌝ }
 {
     sought(9, sheet, q, out)
 }
 
 // Question 10, the rows of the edge table that are redundant at an office, by index from 0, rising; how many in `count`.
 pub fn redundant_edges(sheet: &[u32], q: Question, out: &mut [u32]) -> Answer
-    ensures { λ a. ⌜ Shows (afterSheet (now (sheet .entry)) (badOffice (headerOf (now (sheet .entry))) (q .office))) (RedundantAre (now (sheet .entry)) (q .office)) (now (out .entry)) a (now (out .exit)) ⌝ }
+    ensures { λ a. ⌜ ListsRedundant (now (sheet .entry)) q (now (out .entry)) a (now (out .exit)) ⌝ }
 {
     sought(10, sheet, q, out)
 }

@@ -1,14 +1,14 @@
 -- What a search for an identity tells of a sheet: that it has the identity, where its row stands, and what a lookup gives.
 -- Assumes nothing.
-use Prim.Native.Nat.{ℕ, zero, suc, _+_, _*_, _<_, _≤_}
+use Prim.Native.Nat.{ℕ, zero, suc, _+_, _<_, _≤_}
 use native.Mathlib.Omega.{arith}
 use native.Mathlib.Decide.{decLt}
 use mathlib.Core.Path.{_≡_, refl, sym, ap, subst, _∙_}
-use mathlib.Core.Bool.{Bool, true, false, not, _||_, true≢false, false≢true}
+use mathlib.Core.Bool.{Bool, true, false, not, _||_, true≢false}
 use mathlib.Core.List.{List, []}
 use lib.ListN.{length, take, drop, length-take}
-use Rattle.tables.specs.Key.{Key, sameKey}
-use Rattle.tables.proofs.Keys.{same-eq, eq-same, ne-same, one-row}
+use Rattle.tables.specs.Key.{Key}
+use Rattle.tables.proofs.Keys.{eq-same, ne-same}
 use Rattle.sheet.specs.declared.Refusal.{Refusal}
 use Rattle.sheet.specs.declared.Header.{Header}
 use Rattle.sheet.specs.declared.Found.the-variants.{At, Nowhere}
@@ -21,7 +21,7 @@ use Rattle.sheet.specs.Accepted.{Accepted}
 use Rattle.sheet.specs.Found.{FoundIs, stands, missing}
 use Rattle.sheet.proofs.Refusing.{then-some-is, then-none-is, then-good}
 use Rattle.sheet.proofs.Accepting.{accepted}
-use Rattle.lookup.specs.Looked.{anyRow, has, neither, lookFault, rowWords, LooksUp, refused, in-first, in-second, StandsAt, at-row, nowhere}
+use Rattle.lookup.specs.Looked.{anyRow, has, neither, lookFault, LooksUp, refused, in-first, in-second, StandsAt, at-row, nowhere}
 
 -- ---- where a row stands
 

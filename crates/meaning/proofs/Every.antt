@@ -3,8 +3,8 @@
 use Prim.Native.Nat.{ℕ, zero, suc, _<_}
 use native.Mathlib.Omega.{arith}
 use mathlib.Core.Path.{_≡_, refl, sym, ap, subst, _∙_}
-use mathlib.Core.Bool.{Bool, true, false, not, _&&_, _||_, true≢false}
-use mathlib.Core.List.{List, [], _∷_}
+use mathlib.Core.Bool.{Bool, true, false, not, _&&_, true≢false}
+use mathlib.Core.List.{List}
 use lib.Dec.{eqb}
 use lib.ListN.{getD}
 use lib.Arith.{lt-of-le-ne}
@@ -18,10 +18,10 @@ use Rattle.sheet.specs.Rows.{headerOf, edgeTable}
 use Rattle.sheet.specs.Accepted.{Accepted}
 use Rattle.sheet.specs.Named.{nodeRow, edgeRow, seenAt}
 use Rattle.sheet.proofs.Naming.{node-seen, edge-seen}
-use Rattle.paths.specs.Leads.{among, leads}
+use Rattle.paths.specs.Leads.{among}
 use Rattle.paths.proofs.Tests.{and-left, and-right, both, _implies_, implied}
 use Rattle.paths.proofs.Ways.{kept-in}
-use Rattle.meaning.specs.Paths.{Side, grant, ban, rightKind, member, contained, right, applies, step, carries, HasPath}
+use Rattle.meaning.specs.Paths.{Side, grant, ban, rightKind, member, right, applies, step, carries, HasPath}
 use Rattle.meaning.proofs.Spelling.{onward}
 
 abbrev pub allBelow : ℕ → (ℕ → Bool) → Bool

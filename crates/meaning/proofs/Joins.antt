@@ -1,17 +1,14 @@
 -- Joining and taking out, from what the offices see: results are one, inputs come back, parts join again, and every question of a joint sheet's office is that of the sheet joined.
 -- Assumes nothing.
-use Prim.Native.Nat.{ℕ, zero, suc, _+_, _-_, _*_, _^_, _<_, _≤_}
+use Prim.Native.Nat.{ℕ, suc, _+_, _-_, _<_}
 use native.Mathlib.Omega.{arith}
 use native.Mathlib.Decide.{decLt}
 use mathlib.Core.Path.{_≡_, refl, sym, ap, ap₂, subst, _∙_}
-use mathlib.Core.Bool.{Bool, true, false}
-use mathlib.Core.List.{List, [], _∷_, _++_}
-use lib.ListN.{length, getD, length-append, List·getD-append}
+use mathlib.Core.List.{List, _++_}
+use lib.ListN.{getD, length-append, List·getD-append}
 use lib.Seq.{getD-append-add}
-use Rattle.tables.specs.Key.{Key}
 use Rattle.tables.specs.Office.{View, Same}
 use Rattle.tables.proofs.Alike.{same-view, same-back, same-through}
-use Rattle.sheet.specs.Rows.{headerOf}
 use Rattle.sheet.specs.Accepted.{Accepted}
 use Rattle.sheet.specs.Named.{seenAt}
 use Rattle.sheet.proofs.Whole.{sheet-alike}

@@ -2,7 +2,7 @@
 -- Assumes nothing.
 use mathlib.Core.Path.{_≡_, refl}
 use mathlib.Core.Bool.{true, false}
-use mathlib.Core.List.{List, [], _∷_}
+use mathlib.Core.List.{[], _∷_}
 use Rattle.tables.specs.Key.{relation}
 use Rattle.tables.specs.Table.{rowsOf, marksAt}
 use Rattle.tables.specs.Office.{seenBy}

@@ -16,7 +16,7 @@ use Rattle.sheet.specs.Named.{nodeRow, edgeRow, tablesOf, seenAt}
 use Rattle.sheet.proofs.Accepting.{accepted}
 use Rattle.paths.specs.Leads.{leads}
 use Rattle.meaning.specs.Paths.{Side, grant, ban, path, spell, isPath, HasPath}
-use Rattle.meaning.specs.Answers.{Says, answered, AnswerIs, AnswersAre, JointIs, lowest, jointly}
+use Rattle.meaning.specs.Answers.{Says, answered, AnswerIs, JointIs, lowest, jointly}
 use Rattle.meaning.specs.Ships.{sheetA, sheetB, sheetC, sheetJ, SisterShips}
 use Rattle.meaning.proofs.Every.{rests, no-path, seesSame, same-by}
 use Rattle.meaning.proofs.Search.{noneBefore, witness-by, noneBoth, least-by}

@@ -1,8 +1,8 @@
 -- Definitions 32 and 33: a join is the union graph, and a path at an office is a site-path.
 -- Assumes nothing.
 use Prim.Native.Nat.{ℕ, suc, _+_, _*_, _^_, _<_}
-use mathlib.Core.Path.{_≡_, refl, sym, ap, subst, _∙_}
-use mathlib.Core.Bool.{Bool, true, false, _&&_}
+use mathlib.Core.Path.{_≡_, refl, sym, subst, _∙_}
+use mathlib.Core.Bool.{Bool, true, _&&_}
 use mathlib.Core.List.{List, [], _∷_}
 use mathlib.Core.Logic.{_↔_}
 use lib.Pow.{pow-pos}
@@ -20,7 +20,7 @@ use Rattle.sheet.proofs.Naming.{nodes-rise, edges-rise, edge-seen, seen-edge}
 use Rattle.paths.specs.Leads.{leads}
 use Rattle.paths.proofs.Tests.{and-left, and-right, both}
 use Rattle.paths.proofs.Ways.{first-step}
-use Rattle.meaning.specs.Paths.{Side, grant, ban, rightKind, person, category, deed, folio, member, contained, right, applies, step, carries, path}
+use Rattle.meaning.specs.Paths.{Side, grant, ban, person, category, member, right, step, carries, path}
 use Rattle.meaning.specs.Join.{officesOf, IsJoin}
 use Rattle.meaning.specs.Source.{between, onEdges}
 

@@ -1,13 +1,13 @@
 -- A way of distinct numbers is there exactly where steps reach: a walk that repeats one can be shortened.
 -- Assumes nothing.
 use Prim.Native.Nat.{ℕ}
-use mathlib.Core.Path.{_≡_, refl, sym, ap, _∙_, subst}
-use mathlib.Core.Bool.{Bool, true, false, not, _&&_, _||_}
+use mathlib.Core.Path.{_≡_, ap}
+use mathlib.Core.Bool.{Bool, true, false, not}
 use mathlib.Core.List.{List, [], _∷_}
 use mathlib.Core.Logic.{_⊎_, inl, inr}
 use lib.Dec.{eqb}
-use borrow.Author.Tests.{eqb-true, eq-eqb}
-use Rattle.paths.specs.Leads.{among, leads, Reach, here, more, Beyond}
+use borrow.Author.Tests.{eqb-true}
+use Rattle.paths.specs.Leads.{among, leads, Reach, here, more}
 use Rattle.paths.proofs.Tests.{and-left, and-right, both, or-cases, either}
 
 -- a way from a to some number at which it may end

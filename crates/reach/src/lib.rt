@@ -2,7 +2,7 @@
 use sheet::Header;
 use walk::Walk;
 ghost use mathlib.Core.Bool.{false};
-ghost use Prim.Native.Nat.{_/_, _<_, _≤_};
+ghost use Prim.Native.Nat.{_<_, _≤_};
 ghost use lib.ListN.{length};
 ghost use Rattle.sheet.specs.Refusals.{_is_};
 ghost use Rattle.sheet.specs.Accepted.{WellFormed};

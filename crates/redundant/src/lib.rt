@@ -7,7 +7,7 @@ ghost use mathlib.Core.Bool.{false};
 ghost use Prim.Native.Nat.{suc, _/_, _%_, _<_};
 ghost use lib.ListN.{length};
 ghost use Rattle.sheet.specs.Limits.{maxEdges};
-ghost use Rattle.sheet.specs.Refusals.{_is_, none};
+ghost use Rattle.sheet.specs.Refusals.{_is_};
 ghost use Rattle.sheet.specs.Accepted.{WellFormed};
 ghost use Rattle.walk.specs.Arcs.{Arranged};
 ghost use Rattle.meaning.specs.Answers.{Says};

@@ -2,20 +2,19 @@
 -- Assumes nothing.
 use Prim.Native.Nat.{ℕ, _+_, _^_, _<_}
 use mathlib.Core.Path.{_≡_, refl, sym, _∙_, ap}
-use mathlib.Core.Bool.{Bool, true, false, true≢false}
+use mathlib.Core.Bool.{true, true≢false}
 use mathlib.Core.List.{List, [], _∷_, _++_}
 use native.Mathlib.Omega.{arith}
 use Rattle.tables.specs.Key.{Key, identity, relation, belowKey}
 use Rattle.tables.specs.Marks.{marked, within}
-use Rattle.tables.specs.Table.{Row, rowsOf, Rise}
-use Rattle.tables.specs.Office.{Tables, View, seenBy}
+use Rattle.tables.specs.Table.{Rise}
+use Rattle.tables.specs.Office.{seenBy}
 use Rattle.tables.proofs.Keys.{Ahead, first, rest, ahead, behind, below-first, below-second, rises, one-row}
 use Rattle.tables.proofs.Marks.{within-marked}
 use Rattle.tables.proofs.Tables.{rows-rise, MarkedRow, seen-row, row-seen}
-use Rattle.sheet.specs.declared.Header.{Header}
 use Rattle.sheet.specs.declared.Edge.{Edge}
-use Rattle.sheet.specs.Rows.{headerOf, nodeAt, edgeAt, edgeTable, nodeKey, edgeKey, nodeKeyAt, edgeKeyAt, endsFit}
-use Rattle.sheet.specs.Accepted.{Rising, NodesFormed, EdgesFormed, WellFormed, Accepted}
+use Rattle.sheet.specs.Rows.{headerOf, nodeAt, edgeAt, edgeTable, edgeKey, nodeKeyAt, endsFit}
+use Rattle.sheet.specs.Accepted.{Rising, Accepted}
 use Rattle.sheet.specs.Named.{nodeRow, edgeRow, tablesOf, seenAt}
 
 -- the key of a relation, from its row

@@ -1,14 +1,12 @@
 -- Halving a rising table finds the place of a key; the place and what stands there are one.
 -- Assumes nothing.
-use Prim.Native.Nat.{ℕ, zero, suc, _+_, _-_, _/_, _<_, _≤_}
+use Prim.Native.Nat.{ℕ, _+_, _-_, _<_, _≤_}
 use mathlib.Core.Path.{_≡_, refl, sym, _∙_, ap}
 use mathlib.Core.Bool.{Bool, true, false, true≢false}
 use native.Mathlib.Omega.{arith}
 use native.Mathlib.Decide.{decLt}
-use lib.Dec.{ltb}
-use borrow.Author.Tests.{ltb-true, ltb-false}
 use Rattle.tables.specs.Key.{Key, belowKey, sameKey}
-use Rattle.tables.proofs.Keys.{below-trans, below-irrefl, below-apart, rises, one-row, same-eq, eq-same}
+use Rattle.tables.proofs.Keys.{below-trans, below-apart, rises, one-row, same-eq, eq-same}
 use Rattle.sheet.specs.Accepted.{Rising}
 use Rattle.sheet.specs.declared.Found.{Found}
 use Rattle.sheet.specs.declared.Found.the-variants.{At, Nowhere}

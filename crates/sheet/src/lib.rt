@@ -1,6 +1,6 @@
 // A sheet's words: its limits, how its rows are read and compared, and where an identity stands.
 ghost use mathlib.Core.Path.{_≡_};
-ghost use Prim.Native.Nat.{ℕ, _+_, _*_, _-_, _<_, _≤_};
+ghost use Prim.Native.Nat.{_+_, _*_, _-_, _<_, _≤_};
 ghost use lib.ListN.{length};
 ghost use Rattle.tables.specs.Key.{identity, sameKey, belowKey};
 ghost use Rattle.sheet.specs.Limits.{headerWords, nodeWords, edgesFrom};

@@ -1,15 +1,14 @@
 -- The rows of a table and the marks at a key.
 -- Assumes nothing.
-use Prim.Native.Nat.{ℕ, zero, suc, _+_, _≤_, _<_}
+use Prim.Native.Nat.{ℕ, zero, suc, _+_, _<_}
 use mathlib.Core.Path.{_≡_, refl, sym, ap, _∙_}
-use mathlib.Core.Bool.{Bool, true, false, cond, true≢false}
-use mathlib.Core.List.{List, [], _∷_}
+use mathlib.Core.Bool.{Bool, true, false}
 use native.Mathlib.Omega.{arith}
 use native.Mathlib.Decide.{decLt}
 use native.Mathlib.Nat.{add-zero, zero-add}
 use Rattle.tables.specs.Key.{Key, sameKey, belowKey}
 use Rattle.tables.specs.Marks.{marked}
-use Rattle.tables.specs.Table.{Row, Table, rowsOf, marksAt, Rise}
+use Rattle.tables.specs.Table.{Row, rowsOf, marksAt, Rise}
 use Rattle.tables.proofs.Keys.{same-refl, same-eq, ne-same}
 use Rattle.tables.proofs.Marks.{marked-some}
 

@@ -17,13 +17,10 @@ use Rattle.sheet.proofs.Refusing.{then-none}
 use Rattle.meaning.specs.Join.{officesOf, IsJoin, IsTaken}
 use Rattle.ask.specs.declared.Answer.{Answer}
 use Rattle.ask.specs.Asked.{badOffice, plain, afterSheet}
-use Rattle.ask.specs.Replies.{tells, Shows, written}
+use Rattle.ask.specs.Replies.{tells, written}
 use Rattle.ask.proofs.Telling.{plain-none, office-fits}
+use Rattle.takeout.specs.Promises.{TakesOut}
 use Rattle.takeout.proofs.Single.{taken-single}
-
--- what take_out's statement says of its answer and its output
-abbrev pub Takes : List ℕ → ℕ → List ℕ → Answer → List ℕ → Type 0
-Takes s office out a out′ = Shows (afterSheet s (badOffice (headerOf s) office)) (IsTaken s (office - 1) 1) out a out′
 
 -- the words ws stand in front, and nothing else is changed
 abbrev pub Stands : List ℕ → List ℕ → Answer → List ℕ → Type 0
@@ -37,17 +34,17 @@ none-refuses s office w l h =
     ∙ plain-none (badOffice (headerOf s) office) (office-fits (headerOf s) office (office - 1) (omega arith) (omega arith))
 
 -- with room, the sheet that is taken out is written
-pub takes-room : (s t : List ℕ) (office : ℕ) → Accepted s → 0 < office → office ≤ officesOf s → IsTaken s (office - 1) 1 t → (out : List ℕ) {a : Answer} {out′ : List ℕ} → length t ≤ length out → Takes s office out a out′ → Stands t out a out′
+pub takes-room : (s t : List ℕ) (office : ℕ) → Accepted s → 0 < office → office ≤ officesOf s → IsTaken s (office - 1) 1 t → (out : List ℕ) {a : Answer} {out′ : List ℕ} → length t ≤ length out → TakesOut s office out a out′ → Stands t out a out′
 takes-room s t office w l h x out room y = taken-single s (office - 1) 1 _ out y (written t (none-refuses s office w l h) x room)
 
 module _ (a b j : List ℕ) (x : IsJoin a b j) (one : officesOf a ≡ 1) (other : officesOf b ≡ 1) (out : List ℕ) {r : Answer} {out′ : List ℕ} where
-  pub first-taken : Accepted a → length a ≤ length out → Takes j 1 out r out′ → Stands a out r out′
+  pub first-taken : Accepted a → length a ≤ length out → TakesOut j 1 out r out′ → Stands a out r out′
   first-taken v room y = takes-room j a 1 (x .accepted) (omega arith) (omega (arith, x .offices)) (record { accepted = v; offices = one; sees = sees }) out room y
     where
       sees : (i : ℕ) → i < 1 → Same (seenAt a (suc i)) (seenAt j (suc (1 - 1 + i)))
       sees i h = let e : i ≡ 1 - 1 + i = omega arith in subst (λ (o : ℕ). Same (seenAt a (suc i)) (seenAt j (suc o))) e (same-back (x .first i (omega (arith, one))))
 
-  pub second-taken : Accepted b → length b ≤ length out → Takes j 2 out r out′ → Stands b out r out′
+  pub second-taken : Accepted b → length b ≤ length out → TakesOut j 2 out r out′ → Stands b out r out′
   second-taken v room y = takes-room j b 2 (x .accepted) (omega arith) (omega (arith, x .offices)) (record { accepted = v; offices = other; sees = sees }) out room y
     where
       sees : (i : ℕ) → i < 1 → Same (seenAt b (suc i)) (seenAt j (suc (2 - 1 + i)))

@@ -14,11 +14,12 @@ ghost use Rattle.sheet.specs.Refusals.{_is_, none};
 ghost use Rattle.sheet.specs.Rows.{headerOf, edgeAt};
 ghost use Rattle.sheet.specs.Accepted.{EdgeRoom, EdgeShaped, NodesFormed, WellFormed};
 ghost use Rattle.meaning.specs.Join.{IsTaken};
-ghost use Rattle.ask.specs.Asked.{badOffice, plain, afterSheet};
+ghost use Rattle.ask.specs.Asked.{badOffice, plain};
 ghost use Rattle.ask.specs.Placed.{AtOffice};
 ghost use Rattle.ask.specs.Replies.{Shows};
 ghost use Rattle.carry.specs.Stored.{nodeFour, edgeFour};
 ghost use Rattle.takeout.specs.Kept.{wordsIf, holding, CountsKept};
+ghost use Rattle.takeout.specs.Promises.{TakesOut};
 ghost use Rattle.takeout.specs.Taken.{nodeKept, edgeKept, ownNode, ownEdge, takenNode, takenEdge, takenSheet};
 
 // One number for each node row.
@@ -207,7 +208,7 @@ fn take_checked(sheet: &[u32], edges: &[u32], h: Header, office: u32, out: &mut 
 
 // Takes an office out of any words: the sheet of that office alone, how many words it has in `count`.
 pub fn take_out(sheet: &[u32], office: u32, out: &mut [u32]) -> Answer
-    ensures { λ a. ⌜ Shows (afterSheet (now (sheet .entry)) (badOffice (headerOf (now (sheet .entry))) office)) (IsTaken (now (sheet .entry)) (office - 1) 1) (now (out .entry)) a (now (out .exit)) ⌝ }
+    ensures { λ a. ⌜ TakesOut (now (sheet .entry)) office (now (out .entry)) a (now (out .exit)) ⌝ }
 {
     let r = verdict::check(sheet);
     if r.number != 0 {

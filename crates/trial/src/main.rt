@@ -5,12 +5,11 @@ use ask::Question;
 use join::Joined;
 use libc::STDIN_FILENO;
 use libc::STDOUT_FILENO;
+use opened::Which;
 use sheet::Refusal;
 ghost use mathlib.Core.Path.{_≡_};
-ghost use Prim.Native.Nat.{ℕ, _*_, _≤_};
+ghost use Prim.Native.Nat.{_*_, _≤_};
 ghost use lib.ListN.{length, replicate};
-ghost use Rattle.sheet.specs.Verdict.{verdict};
-ghost use Rattle.files.specs.Bytes.{wordsOf};
 
 // The longest payload in bytes, and the longest output in words.
 const MAX_PAYLOAD: usize = 80000;
@@ -67,9 +66,9 @@ fn replied(a: Answer) -> Reply {
     }
 }
 
-// What operations 1 to 4 ask, each with its own order of numbers.
-fn question_of(q: Request) -> Question {
-    if q.operation < 3 {
+// What questions 1 to 4 ask, each with its own order of numbers.
+fn question_of(number: u32, q: Request) -> Question {
+    if number < 3 {
         return Question {
             office: q.a1,
             rule: q.a1,
@@ -95,8 +94,8 @@ fn question_of(q: Request) -> Question {
 
 // Operations 1 to 4 on words.
 fn ask_words(q: Request, sheet: &[u32], list: &[u32], out: &mut [u32]) -> Answer {
-    let question = question_of(q);
     let operation = q.operation;
+    let question = question_of(operation, q);
     match operation {
         1 => ask::answer_at_office(sheet, question),
         2 => ask::joint_answer(sheet, question),
@@ -105,17 +104,20 @@ fn ask_words(q: Request, sheet: &[u32], list: &[u32], out: &mut [u32]) -> Answer
     }
 }
 
-// Operations 1 to 4 on the words of their payloads.
-fn ask_payloads(q: Request, first: &[u8], second: &[u8], out: &mut [u32]) -> Reply
-    requires { ⌜ (length (now first) ≤ 80000) × (length (now second) ≤ 80000) ⌝ }
-{
-    let mut words = [0u32; MAX_OUTPUT];
-    files::decode(first, &mut words);
-    let n = first.len() / 4;
-    let mut list = [0u32; MAX_OUTPUT];
-    files::decode(second, &mut list);
-    let m = second.len() / 4;
-    replied(ask_words(q, &words[0..n], &list[0..m], out))
+// Question 1, 2 or 3 as a case.
+fn which_of(number: u32) -> Which {
+    match number {
+        1 => Which::AtOffice,
+        2 => Which::Joint,
+        _ => Which::Witness,
+    }
+}
+
+// Operations 14 to 16 on words: question 1, 2 or 3, asked of an opened sheet.
+fn opened_words(number: u32, q: Request, sheet: &[u32], out: &mut [u32]) -> Reply {
+    let which = which_of(number);
+    let question = question_of(number, q);
+    replied(opened::open_and_ask(sheet, which, question, out))
 }
 
 // What operations 5 to 10 ask: their second number is a category or a deed, and their third a folio or another deed.
@@ -144,16 +146,6 @@ fn list_words(q: Request, sheet: &[u32], out: &mut [u32]) -> Answer {
         9 => lists::least_holder(sheet, search, out),
         _ => lists::redundant_edges(sheet, search, out),
     }
-}
-
-// Operations 5 to 10 on the words of their payload.
-fn list_payload(q: Request, bytes: &[u8], out: &mut [u32]) -> Reply
-    requires { ⌜ length (now bytes) ≤ 80000 ⌝ }
-{
-    let mut words = [0u32; MAX_OUTPUT];
-    files::decode(bytes, &mut words);
-    let n = bytes.len() / 4;
-    replied(list_words(q, &words[0..n], out))
 }
 
 // Copies as many words of a part as the output has room for.
@@ -186,29 +178,6 @@ fn look_words<'a>(q: Request, first: &'a [u32], second: &'a [u32], out: &mut [u3
     }
 }
 
-// Operation 11 on the words of its payloads.
-fn look_payloads(q: Request, first: &[u8], second: &[u8], out: &mut [u32]) -> Reply
-    requires { ⌜ (length (now first) ≤ 80000) × (length (now second) ≤ 80000) ⌝ }
-{
-    let mut words = [0u32; MAX_OUTPUT];
-    files::decode(first, &mut words);
-    let n = first.len() / 4;
-    let mut others = [0u32; MAX_OUTPUT];
-    files::decode(second, &mut others);
-    let m = second.len() / 4;
-    look_words(q, &words[0..n], &others[0..m], out)
-}
-
-// Operation 13 on the words of its payload.
-fn take_payload(q: Request, bytes: &[u8], out: &mut [u32]) -> Reply
-    requires { ⌜ length (now bytes) ≤ 80000 ⌝ }
-{
-    let mut words = [0u32; MAX_OUTPUT];
-    files::decode(bytes, &mut words);
-    let n = bytes.len() / 4;
-    replied(takeout::take_out(&words[0..n], q.a1, out))
-}
-
 // The reply of a join.
 fn joined(j: Joined) -> Reply {
     Reply {
@@ -222,53 +191,66 @@ fn joined(j: Joined) -> Reply {
     }
 }
 
-// Operation 12 on the words of its payloads.
-fn join_payloads(first: &[u8], second: &[u8], out: &mut [u32]) -> Reply
-    requires { ⌜ (length (now first) ≤ 80000) × (length (now second) ≤ 80000) ⌝ }
+// Operation 23: the path's bytes, four to a word of the output.
+fn witness_file(q: Request, file: &[u8], out: &mut [u32]) -> Answer
+    requires { ⌜ length (now out) ≤ 20000 ⌝ }
 {
-    let mut words = [0u32; MAX_OUTPUT];
-    files::decode(first, &mut words);
-    let n = first.len() / 4;
-    let mut others = [0u32; MAX_OUTPUT];
-    files::decode(second, &mut others);
-    let m = second.len() / 4;
-    joined(join::join(&words[0..n], &others[0..m], out))
+    let mut bytes = [0u8; MAX_PAYLOAD];
+    files::encode(out, &mut bytes);
+    let n = 4 * out.len();
+    let room = &mut bytes[0..n];
+    let a = counter::tormukai_witness(file, q.a1, q.a2, q.a3, q.a4, q.a5, room);
+    files::decode(room, out);
+    a
 }
 
-// The words of a payload, judged as a sheet.
-fn check_payload(bytes: &[u8]) -> Refusal
-    requires { ⌜ length (now bytes) ≤ 80000 ⌝ }
-    ensures { λ r. ⌜ r ≡ verdict 1 (wordsOf (now (bytes .entry))) ⌝ }
+// Operations 21 to 23 by the counter's entries, on the bytes of their payload.
+fn ask_file(q: Request, file: &[u8], out: &mut [u32]) -> Answer
+    requires { ⌜ length (now out) ≤ 20000 ⌝ }
 {
-    let mut words = [0u32; MAX_OUTPUT];
-    files::decode(bytes, &mut words);
-    let n = bytes.len() / 4;
-    verdict::check(&words[0..n])
+    let operation = q.operation;
+    match operation {
+        21 => counter::tormukai_answer(file, q.a1, q.a2, q.a3, q.a4),
+        22 => counter::tormukai_joint_answer(file, q.a1, q.a2, q.a3, q.a4),
+        _ => witness_file(q, file, out),
+    }
 }
 
-// The operation's function on its payloads and its output.
-fn answer(q: Request, first: &[u8], second: &[u8], out: &mut [u32]) -> Reply
-    requires { ⌜ (length (now first) ≤ 80000) × (length (now second) ≤ 80000) ⌝ }
+// The operation's function on its payloads, of bytes or of words, and its output.
+fn answer<'a>(
+    q: Request,
+    file: &[u8],
+    first: &'a [u32],
+    second: &'a [u32],
+    out: &mut [u32],
+) -> Reply
+    requires { ⌜ length (now out) ≤ 20000 ⌝ }
 {
     let operation = q.operation;
     if (1 <= operation) & (operation <= 4) {
-        return ask_payloads(q, first, second, out);
+        return replied(ask_words(q, first, second, out));
     }
     if (5 <= operation) & (operation <= 10) {
-        return list_payload(q, first, out);
-    }
-    if operation == 13 {
-        return take_payload(q, first, out);
-    }
-    if operation == 12 {
-        return join_payloads(first, second, out);
+        return replied(list_words(q, first, out));
     }
     if operation == 11 {
-        return look_payloads(q, first, second, out);
+        return look_words(q, first, second, out);
+    }
+    if operation == 12 {
+        return joined(join::join(first, second, out));
+    }
+    if operation == 13 {
+        return replied(takeout::take_out(first, q.a1, out));
+    }
+    if (21 <= operation) & (operation <= 23) {
+        return replied(ask_file(q, file, out));
     }
     match operation {
-        0 => told(check_payload(first)),
-        20 => told(files::check_bytes(first)),
+        0 => told(verdict::check(first)),
+        14 => opened_words(1, q, first, out),
+        15 => opened_words(2, q, first, out),
+        16 => opened_words(3, q, first, out),
+        20 => told(files::check_bytes(file)),
         _ => told(Refusal {
             number: 4294967295,
             sheet: 0,
@@ -289,25 +271,18 @@ fn fill(out: &mut [u32], word: u32)
     }
 }
 
-// Writes words to standard output.
-fn send(words: &[u32])
-    requires { ⌜ length (now words) ≤ 20000 ⌝ }
-{
-    let mut bytes = [0u8; MAX_PAYLOAD];
-    files::encode(words, &mut bytes);
-    let n = 4 * words.len();
-    io::write_all(STDOUT_FILENO, &bytes[0..n]);
+// Writes words to standard output, by way of lent bytes that have room for them.
+fn send(words: &[u32], bytes: &mut [u8]) {
+    let n = words.len();
+    if bytes.len() / 4 < n {
+        return;
+    }
+    files::encode(words, bytes);
+    io::write_all(STDOUT_FILENO, &bytes[0..4 * n]);
 }
 
-// Answers one request on its payloads, and writes the reply with the whole output behind it.
-fn respond(q: Request, first: &[u8], second: &[u8])
-    requires { ⌜ (length (now first) ≤ 80000) × (length (now second) ≤ 80000) × (q .room ≤ 20000) ⌝ }
-{
-    let mut space = [0u32; MAX_OUTPUT];
-    let room = q.room as usize;
-    let out = &mut space[0..room];
-    fill(out, q.fill);
-    let r = answer(q, first, second, out);
+// Writes a reply's head to standard output.
+fn send_head(r: Reply, room: u32, bytes: &mut [u8]) {
     send(
         &[
             r.number,
@@ -317,10 +292,27 @@ fn respond(q: Request, first: &[u8], second: &[u8])
             r.count,
             r.extra,
             r.further,
-            q.room,
+            room,
         ],
+        bytes,
     );
-    send(out);
+}
+
+// Answers one request on its payloads, and writes the reply with the whole output behind it.
+fn respond<'a>(
+    q: Request,
+    file: &[u8],
+    first: &'a [u32],
+    second: &'a [u32],
+    out: &mut [u32],
+    bytes: &mut [u8],
+)
+    requires { ⌜ length (now out) ≤ 20000 ⌝ }
+{
+    fill(out, q.fill);
+    let r = answer(q, file, first, second, out);
+    send_head(r, q.room, bytes);
+    send(out, bytes);
 }
 
 // Fills the bytes from standard input; false where it ends first.
@@ -347,9 +339,42 @@ fn request_of(head: &[u8]) -> Request {
     }
 }
 
+// The words of both payloads, in lent words that have room for them, and the answer.
+fn decode_and_respond(
+    q: Request,
+    first: &[u8],
+    second: &[u8],
+    words: &mut [u32],
+    others: &mut [u32],
+    out: &mut [u32],
+    bytes: &mut [u8],
+)
+    requires { ⌜ length (now out) ≤ 20000 ⌝ }
+{
+    let n = first.len() / 4;
+    let m = second.len() / 4;
+    if words.len() < n {
+        return;
+    }
+    if others.len() < m {
+        return;
+    }
+    files::decode(first, words);
+    files::decode(second, others);
+    respond(q, first, &words[0..n], &others[0..m], out, bytes);
+}
+
 // Reads a request's payloads, and answers it; false where the input ends first.
-fn attend(q: Request, first: &mut [u8], second: &mut [u8]) -> bool
-    requires { ⌜ (length (now first) ≤ 80000) × (length (now second) ≤ 80000) × (q .room ≤ 20000) ⌝ }
+fn attend(
+    q: Request,
+    first: &mut [u8],
+    second: &mut [u8],
+    words: &mut [u32],
+    others: &mut [u32],
+    out: &mut [u32],
+    bytes: &mut [u8],
+) -> bool
+    requires { ⌜ length (now out) ≤ 20000 ⌝ }
 {
     if !fetch(first) {
         return false;
@@ -357,12 +382,21 @@ fn attend(q: Request, first: &mut [u8], second: &mut [u8]) -> bool
     if !fetch(second) {
         return false;
     }
-    respond(q, first, second);
+    decode_and_respond(q, first, second, words, others, out, bytes);
     true
 }
 
-// Reads one request, and answers it; false where the input has no whole one, or its lengths are over the limits.
-fn serve() -> bool {
+// Reads one request, and answers it in the lent buffers; false where the input has no whole one, or its lengths are over theirs.
+fn serve(
+    first: &mut [u8],
+    second: &mut [u8],
+    words: &mut [u32],
+    others: &mut [u32],
+    space: &mut [u32],
+    bytes: &mut [u8],
+) -> bool
+    requires { ⌜ length (now space) ≤ 20000 ⌝ }
+{
     let mut head = [0u8; 48];
     if !fetch(&mut head) {
         return false;
@@ -371,24 +405,46 @@ fn serve() -> bool {
     let a = q.first as usize;
     let b = q.second as usize;
     let room = q.room as usize;
-    if MAX_PAYLOAD < a {
+    if first.len() < a {
         return false;
     }
-    if MAX_PAYLOAD < b {
+    if second.len() < b {
         return false;
     }
-    if MAX_OUTPUT < room {
+    if space.len() < room {
         return false;
     }
-    let mut first = [0u8; MAX_PAYLOAD];
-    let mut second = [0u8; MAX_PAYLOAD];
-    attend(q, &mut first[0..a], &mut second[0..b])
+    attend(
+        q,
+        &mut first[0..a],
+        &mut second[0..b],
+        words,
+        others,
+        &mut space[0..room],
+        bytes,
+    )
 }
 
+// The buffers are made once: to clear them for each request would take most of its time.
 // A proved loop has to end, and nothing says that the input does. So the loop counts its turns down, from a number that no run uses up.
 fn main() {
+    let mut first = [0u8; MAX_PAYLOAD];
+    let mut second = [0u8; MAX_PAYLOAD];
+    let mut words = [0u32; MAX_OUTPUT];
+    let mut others = [0u32; MAX_OUTPUT];
+    let mut space = [0u32; MAX_OUTPUT];
+    let mut bytes = [0u8; MAX_PAYLOAD];
     let mut turns = u64::MAX;
-    while turns > 0 && serve() {
+    while turns > 0
+        && serve(
+            &mut first,
+            &mut second,
+            &mut words,
+            &mut others,
+            &mut space,
+            &mut bytes,
+        )
+    {
         turns -= 1;
     }
 }

@@ -10,7 +10,7 @@ use sheet::NODE_WORDS;
 use sheet::Node;
 use sheet::Refusal;
 ghost use mathlib.Core.Path.{_≡_};
-ghost use Prim.Native.Nat.{ℕ, _<_, _≤_};
+ghost use Prim.Native.Nat.{_<_, _≤_};
 ghost use lib.ListN.{length};
 ghost use Rattle.tables.specs.Marks.{marksFit, within};
 ghost use Rattle.sheet.specs.Limits.{maxOffices};

@@ -1,3 +1,5 @@
+-- `ask::answer_at_office` meets its contract: what is asked of a sheet that passed the check, after the check.
+-- Assumes nothing.
 use borrow.Author.Needs.{needs}
 use Rattle.ask.proofs.Telling.{reply-bad, reply-good, opened-long, opened-room, opened-part}
 use Rattle.ask.proofs.answer_at_office.Statement.{statement}

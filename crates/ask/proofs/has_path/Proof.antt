@@ -1,3 +1,5 @@
+-- `ask::has_path` meets its contract: the number of steps from the person's row to the folio's is 0 exactly where no path leads there.
+-- Assumes nothing.
 use mathlib.Core.Bool.{true}
 use mathlib.Core.Path.{_≡_, refl, ap, subst}
 use native.Mathlib.Omega.{arith}

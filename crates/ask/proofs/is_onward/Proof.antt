@@ -21,20 +21,20 @@ mul-d c = search needs
 shared-slice-read-d : tie.Need-shared-slice-read-d
 shared-slice-read-d c = search needs
 
-add-is-among : tie.Need-add-is-among
-add-is-among c = search needs
+add-has-second : tie.Need-add-has-second
+add-has-second c = search needs
 
-is-among-requires : tie.Need-is-among-requires
-is-among-requires c κs = search needs
+has-second-requires : tie.Need-has-second-requires
+has-second-requires c κs = search needs
 
 returns : tie.Need-returns
-returns c = goes-again _ _ _ _ _ (sym (c .before .is-among .ensures) ∙ c .if1 .taken)
+returns c = goes-again _ _ _ _ _ (sym (c .before .has-second .ensures) ∙ c .if1 .taken)
 
 is-step-requires : tie.Need-is-step-requires
 is-step-requires c κs = search needs
 
 returns-2 : tie.Need-returns-2
-returns-2 c = goes-new _ _ _ _ _ _ (sym (c .before .before .is-among .ensures) ∙ c .before .if1 .left) (c .is-step .ensures)
+returns-2 c = goes-new _ _ _ _ _ _ (sym (c .before .before .has-second .ensures) ∙ c .before .if1 .left) (c .is-step .ensures)
 
 pub is-onward-spec : {M : Type 1} → statement M
 is-onward-spec =
@@ -45,8 +45,8 @@ is-onward-spec =
     add-d
     mul-d
     shared-slice-read-d
-    add-is-among
-    is-among-requires
+    add-has-second
+    has-second-requires
     returns
     is-step-requires
     returns-2)

@@ -1,6 +1,7 @@
 -- `ask::is_path_at` meets its contract.
 -- Assumes nothing.
-use mathlib.Core.Path.{sym, _∙_}
+use mathlib.Core.Bool.{not}
+use mathlib.Core.Path.{sym, ap, _∙_}
 use borrow.Author.Needs.{needs}
 use borrow.Author.Tests.{not-true, not-false}
 use Rattle.ask.proofs.Listing.{path-long, odd-long, even-long, long-room, not-framed, not-plain, not-assigned, all-passed}
@@ -19,14 +20,14 @@ is-framed-requires c κs = even-long _ (c .if1 .left)
 returns-2 : tie.Need-returns-2
 returns-2 c = not-framed _ _ _ _ _ _ _ (even-long _ (c .before .before .if1 .left)) (sym (c .before .is-framed .ensures) ∙ not-true _ (c .if2 .taken))
 
-add-is-plain : tie.Need-add-is-plain
-add-is-plain c = search needs
+add-has-second : tie.Need-add-has-second
+add-has-second c = search needs
 
-is-plain-requires : tie.Need-is-plain-requires
-is-plain-requires c κs = long-room _ (c .before .before .if1 .left) .1
+has-second-requires : tie.Need-has-second-requires
+has-second-requires c κs = long-room _ (c .before .before .if1 .left) .1
 
 returns-3 : tie.Need-returns-3
-returns-3 c = not-plain _ _ _ _ _ _ _ (even-long _ (c .before .before .before .before .if1 .left)) (sym (c .before .is-plain .ensures) ∙ not-true _ (c .if3 .taken))
+returns-3 c = not-plain _ _ _ _ _ _ _ (even-long _ (c .before .before .before .before .if1 .left)) (ap not (sym (c .before .has-second .ensures) ∙ c .if3 .taken))
 
 shared-slice-read-is-member : tie.Need-shared-slice-read-is-member
 shared-slice-read-is-member c = long-room _ (c .before .before .before .before .before .if1 .left) .2
@@ -46,7 +47,7 @@ returns-5 c = let F = c .before .before .before .before .before .before .before 
     let P = c .before .before .before .before .before in
     let M = c .before .before in
     all-passed _ _ _ _ _ _ _ (even-long _ (F .before .if1 .left)) _ (sym (F .is-framed .ensures) ∙ not-false _ (c .before .before .before .before .before .before .if2 .left))
-    (sym (P .is-plain .ensures) ∙ not-false _ (c .before .before .before .before .if3 .left)) (sym (M .is-member .ensures) ∙ not-false _ (c .before .if4 .left)) (c .is-way .ensures)
+    (ap not (sym (P .has-second .ensures) ∙ c .before .before .before .before .if3 .left)) (sym (M .is-member .ensures) ∙ not-false _ (c .before .if4 .left)) (c .is-way .ensures)
 
 pub is-path-at-spec : {M : Type 1} → statement M
 is-path-at-spec =
@@ -56,8 +57,8 @@ is-path-at-spec =
     sub-m
     is-framed-requires
     returns-2
-    add-is-plain
-    is-plain-requires
+    add-has-second
+    has-second-requires
     returns-3
     shared-slice-read-is-member
     is-member-requires

@@ -1,3 +1,5 @@
+-- `ask::unknown_of` meets its contract: a row past the last is none, in the order of the table.
+-- Assumes nothing.
 use mathlib.Core.Path.{refl}
 use Rattle.ask.proofs.Placing.{missed, met}
 use Rattle.ask.specs.Placed.{unfound}

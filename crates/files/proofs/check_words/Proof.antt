@@ -1,13 +1,8 @@
 -- `files::check_words` meets its contract: the part of the words that is handed on is the file's words, and what lies behind them is not looked at.
 -- Assumes nothing.
-use Prim.Native.Nat.{ℕ, _/_}
-use mathlib.Core.List.{List}
-use mathlib.Core.Path.{_≡_, refl, sym, ap, _∙_}
-use lib.ListN.{length, take, drop}
-use lib.Seq.{take-at}
+use mathlib.Core.Path.{ap, _∙_}
 use borrow.Author.Needs.{needs}
 use Rattle.files.proofs.Words.{decoded}
-use Rattle.files.specs.Bytes.{wordsOf}
 use Rattle.sheet.specs.Verdict.{verdict}
 use Rattle.files.proofs.check_words.Statement.{statement}
 use Rattle.files.proofs.check_words.Tie as tie

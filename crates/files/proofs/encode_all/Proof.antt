@@ -1,10 +1,9 @@
 -- `files::encode_all` meets its contract. The loop's invariant: the bytes of the first i words stand, and behind them what stood there.
 -- Assumes nothing.
-use Prim.Native.Nat.{ℕ, _+_, _*_, _-_, _≤_}
-use mathlib.Core.List.{List, [], _∷_}
-use mathlib.Core.Path.{_≡_, refl, sym, ap, _∙_}
+use Prim.Native.Nat.{_+_, _*_, _-_, _≤_}
+use mathlib.Core.Path.{_≡_, refl, ap, _∙_}
 use native.Mathlib.Omega.{arith}
-use lib.ListN.{length, getD, length-set}
+use lib.ListN.{length, getD}
 use borrow.Author.Needs.{needs}
 use Rattle.files.proofs.Words.{bytes-long, bytes-next}
 use Rattle.files.specs.Bytes.{bytesOf, bytesOfWord}

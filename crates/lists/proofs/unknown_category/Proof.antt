@@ -1,28 +1,16 @@
--- `lists::unknown_category` meets its contract: the table's line, with the call's result in the place of its test.
+-- `lists::unknown_category` meets its contract: the table's line, at the question's office.
 -- Assumes nothing.
-use Rattle.lists.proofs.Picking.{known-office}
-use mathlib.Core.Path.{refl}
-use Rattle.lists.specs.Sought.{unknownCategory}
-use Rattle.sheet.specs.Refusals.{_when_otherwise_}
-use mathlib.Core.Path.{refl}
 use borrow.Author.Needs.{needs}
+use Rattle.lists.specs.Sought.{unknownCategory}
 use Rattle.lists.proofs.unknown_category.Statement.{statement}
 use Rattle.lists.proofs.unknown_category.Tie as tie
 
-is-known-requires : tie.Need-is-known-requires
-is-known-requires c κs = search needs
+unknown-line-requires : tie.Need-unknown-line-requires
+unknown-line-requires c κs = search needs
 
 returns : tie.Need-returns
-unfolding unknownCategory _when_otherwise_
-returns c =
-    let S = c .before .before .before in
-    rw (known-office _ _ _ _ _ _ (S .pre .4) (c .before .is-known .ensures), c .if1 .taken) refl
-
-returns-2 : tie.Need-returns-2
-unfolding unknownCategory _when_otherwise_
-returns-2 c =
-    let S = c .before .before .before in
-    rw (known-office _ _ _ _ _ _ (S .pre .4) (c .before .is-known .ensures), c .if1 .left) refl
+unfolding unknownCategory
+returns c = rw (c .before .before .pre .4) (c .unknown-line .ensures)
 
 pub unknown-category-spec : {M : Type 1} → statement M
-unknown-category-spec = tie.close (tie.spec is-known-requires returns returns-2)
+unknown-category-spec = tie.close (tie.spec unknown-line-requires returns)

@@ -2,9 +2,9 @@
 -- Assumes nothing.
 use Rattle.lookup.proofs.Looking.{Row, stands-row, has-none, has-place, gives-none, gives-first, gives-second, both-accepted, in-other, four-part}
 use Rattle.sheet.specs.Rows.{nodeKey}
-use mathlib.Core.Path.{_≡_, refl, sym, ap, subst, _∙_}
+use mathlib.Core.Path.{_≡_, refl}
 use native.Mathlib.Omega.{arith}
-use Prim.Native.Nat.{ℕ, _+_, _-_, _<_, _≤_}
+use Prim.Native.Nat.{_+_, _-_}
 use borrow.Author.Needs.{needs}
 use Rattle.lookup.proofs.look_up.Statement.{statement}
 use Rattle.lookup.proofs.look_up.Tie as tie

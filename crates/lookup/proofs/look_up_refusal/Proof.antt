@@ -2,7 +2,7 @@
 -- Assumes nothing.
 use Rattle.lookup.specs.Looked.{lookFault}
 use Rattle.tables.specs.Key.{Key}
-use mathlib.Core.Path.{_≡_, ap, _∙_}
+use mathlib.Core.Path.{ap, _∙_}
 use borrow.Author.Needs.{needs}
 use Rattle.lookup.proofs.look_up_refusal.Statement.{statement}
 use Rattle.lookup.proofs.look_up_refusal.Tie as tie

@@ -1,7 +1,6 @@
 -- `lookup::missing_in` meets its contract: a sheet has the identity exactly if its place is before the end.
 -- Assumes nothing.
 use Rattle.lookup.proofs.Looking.{stands-row, has-row, has-none, found-first, found-second, found-neither}
-use mathlib.Core.Path.{_≡_}
 use borrow.Author.Needs.{needs}
 use Rattle.lookup.proofs.missing_in.Statement.{statement}
 use Rattle.lookup.proofs.missing_in.Tie as tie

@@ -3,9 +3,8 @@
 use Rattle.lookup.proofs.Looking.{found-row, found-nowhere}
 use Rattle.sheet.specs.Accepted.{NodesFormed}
 use Rattle.sheet.specs.declared.Header.{Header}
-use mathlib.Core.Path.{_≡_, sym, subst}
+use mathlib.Core.Path.{sym, subst}
 use native.Mathlib.Omega.{arith}
-use Prim.Native.Nat.{_+_, _*_, _<_, _≤_}
 use borrow.Author.Needs.{needs}
 use Rattle.lookup.proofs.place_in.Statement.{statement}
 use Rattle.lookup.proofs.place_in.Tie as tie

@@ -3,7 +3,7 @@
 use Rattle.lookup.proofs.Looking.{first-refuses, second-refuses, neither-refuses}
 use Rattle.sheet.proofs.Accepting.{accepted}
 use Rattle.sheet.specs.declared.Refusal.{Refusal}
-use mathlib.Core.Path.{_≡_, sym, ap, _∙_}
+use mathlib.Core.Path.{sym, ap, _∙_}
 use borrow.Author.Needs.{needs}
 use Rattle.lookup.proofs.refusal_of.Statement.{statement}
 use Rattle.lookup.proofs.refusal_of.Tie as tie

@@ -1,8 +1,8 @@
 -- `trial::fill` meets its contract. The loop's invariant: the first i words are the fill, and behind them stands what stood there.
 -- Assumes nothing.
-use Prim.Native.Nat.{ℕ, _-_, _≤_}
-use mathlib.Core.List.{List, [], _++_, append-nil}
-use mathlib.Core.Path.{_≡_, refl, sym, ap, _∙_}
+use Prim.Native.Nat.{_-_, _≤_}
+use mathlib.Core.List.{_++_, append-nil}
+use mathlib.Core.Path.{_≡_, refl, _∙_}
 use native.Mathlib.Omega.{arith}
 use lib.ListN.{length, drop, replicate, length-set, drop-of-length-le}
 use borrow.Author.Fill.{fill-none, fill-more}

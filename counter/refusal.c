@@ -1,0 +1,62 @@
+/* Refusals in the words of the table of refusals. */
+#include "desk.h"
+
+#include <inttypes.h>
+#include <stdio.h>
+
+static const char *const sentences[] = {
+    [1] = "under 6 words",
+    [2] = "form not 1",
+    [3] = "office count not 1 or 2",
+    [4] = "n above 512 or e above 2,048",
+    [5] = "an offset or the length is wrong",
+    [6] = "node type",
+    [7] = "number 0, or variant on a non-deed",
+    [8] = "node offices",
+    [9] = "node identity equal to the row before",
+    [10] = "node identity lower than the row before",
+    [11] = "edge kind",
+    [12] = "an end not below n",
+    [13] = "end types don't fit the kind",
+    [14] = "containment in itself",
+    [15] = "edge offices",
+    [16] = "edge equal to the row before",
+    [17] = "edge lower than the row before",
+    [20] = "office number not 1 to the count",
+    [21] = "unknown person",
+    [22] = "unknown deed",
+    [23] = "unknown folio",
+    [24] = "unknown category",
+    [25] = "output shorter than the result",
+    [26] = "no such path, triple or pair",
+    [27] = "rule number",
+    [28] = "joining a sheet whose office count isn't 1",
+    [29] = "union above 512 nodes",
+    [30] = "union above 2,048 edges",
+    [31] = "question 9 with equal deeds",
+    [32] = "identity in neither sheet",
+    [33] = "bytes: length not a multiple of 4, or above 40,984",
+};
+
+const char *refusal_sentence(uint32_t number)
+{
+    if (number < sizeof sentences / sizeof *sentences && sentences[number] != NULL)
+        return sentences[number];
+    return "not in the table of refusals";
+}
+
+/* Row 0 is a row for these numbers alone; for the others a row of 0 is no place. */
+static bool has_row(uint32_t number)
+{
+    return 6 <= number && number <= 17;
+}
+
+void tell_refusal(uint32_t number, uint32_t sheet, uint32_t row)
+{
+    printf("refused %" PRIu32, number);
+    if (sheet != 0)
+        printf(" at sheet %" PRIu32, sheet);
+    if (has_row(number))
+        printf(" row %" PRIu32, row);
+    printf(": %s\n", refusal_sentence(number));
+}

@@ -1,0 +1,4 @@
+pub mod Reading
+pub mod Longest
+pub mod Handing
+pub mod Single

@@ -1,0 +1,349 @@
+// The counter: what a program in C or Rust calls. Questions 1 to 3 and the check are asked of a file's bytes, and every other function of a sheet's words.
+use ask::Answer;
+use ask::Question;
+use join::Joined;
+use sheet::MAX_WORDS;
+use sheet::Refusal;
+ghost use mathlib.Core.Path.{_≡_};
+ghost use lib.ListN.{length};
+ghost use Rattle.tables.specs.Key.{identity};
+ghost use Rattle.sheet.specs.Limits.{maxWords};
+ghost use Rattle.sheet.specs.Verdict.{verdict};
+ghost use Rattle.files.specs.Bytes.{wordsOf, bytesVerdict};
+ghost use Rattle.ask.specs.Asked.{askFault, afterSheet};
+ghost use Rattle.ask.specs.Replies.{Shows};
+ghost use Rattle.lookup.specs.Looked.{lookFault};
+ghost use Rattle.join.specs.Joined.{Joining};
+ghost use Rattle.takeout.specs.Promises.{TakesOut};
+ghost use Rattle.ask.specs.Promises.{AnswersAtOffice, AnswersJointly, WitnessOf, TellsPath};
+ghost use Rattle.lists.specs.Promises.{ListsPersons, ListsHolders, ListsUnreached, ShowsLeastBoth, ShowsLeastPair, ListsRedundant};
+ghost use Rattle.counter.specs.Filed.{asking, seeking, WasRead, afterFile, InBytes};
+
+// No witness is longer: a person, a deed and a folio, and categories, each with a row of its own.
+const PATH_WORDS: usize = 2 * (sheet::MAX_NODES as usize + 3);
+
+// The words of a file, at the front of words that have room for any sheet; 33 where it is no sheet's file.
+fn read(file: &[u8], words: &mut [u32]) -> Refusal
+    requires { ⌜ length (now words) ≡ maxWords ⌝ }
+    ensures { λ r. ⌜ WasRead (now (file .entry)) r (now (words .exit)) ⌝ }
+{
+    let k = files::bytes_fault(file.len());
+    if k != 0 {
+        return Refusal {
+            number: k,
+            sheet: 1,
+            row: 0,
+        };
+    }
+    files::decode(file, words)
+}
+
+// Question 1 of a file's bytes, the answer at an office: 0 Undetermined, 1 Granted, 2 Banned, 3 Both, in `value`.
+#[no_mangle]
+pub extern "C" fn tormukai_answer(
+    file: &[u8],
+    office: u32,
+    person: u32,
+    deed: u32,
+    folio: u32,
+) -> Answer
+    ensures { λ a. ⌜ AnswersAtOffice (afterFile (now (file .entry))) (wordsOf (now (file .entry))) (asking office 0 0 person deed folio) a ⌝ }
+{
+    let mut words = [0u32; MAX_WORDS];
+    let r = read(file, &mut words);
+    if r.number != 0 {
+        return ask::refused(r);
+    }
+    let n = file.len() / 4;
+    let q = Question {
+        office: office,
+        rule: 0,
+        kind: 0,
+        person: person,
+        category: 0,
+        deed: deed,
+        other: 0,
+        folio: folio,
+    };
+    ask::answer_at_office(&words[0..n], q)
+}
+
+// Question 2 of a file's bytes, the joint answer under rule 1, 2 or 3: the answer in `value`, the deciding office in `count`.
+#[no_mangle]
+pub extern "C" fn tormukai_joint_answer(
+    file: &[u8],
+    rule: u32,
+    person: u32,
+    deed: u32,
+    folio: u32,
+) -> Answer
+    ensures { λ a. ⌜ AnswersJointly (afterFile (now (file .entry))) (wordsOf (now (file .entry))) (asking 0 rule 0 person deed folio) a ⌝ }
+{
+    let mut words = [0u32; MAX_WORDS];
+    let r = read(file, &mut words);
+    if r.number != 0 {
+        return ask::refused(r);
+    }
+    let n = file.len() / 4;
+    let q = Question {
+        office: 0,
+        rule: rule,
+        kind: 0,
+        person: person,
+        category: 0,
+        deed: deed,
+        other: 0,
+        folio: folio,
+    };
+    ask::joint_answer(&words[0..n], q)
+}
+
+// Question 3 of words, with the path in bytes.
+fn witness_bytes(sheet: &[u32], q: Question, out: &mut [u8]) -> Answer
+    ensures { λ a. ⌜ Shows (afterSheet (now (sheet .entry)) (askFault (now (sheet .entry)) q)) (InBytes (WitnessOf (now (sheet .entry)) q)) (now (out .entry)) a (now (out .exit)) ⌝ }
+{
+    let mut path = [0u32; PATH_WORDS];
+    let a = ask::witness(sheet, q, &mut path);
+    if a.number != 0 {
+        return a;
+    }
+    let n = a.count as usize;
+    let r = files::encode(&path[0..n], out);
+    if r.number != 0 {
+        return ask::refused(r);
+    }
+    ask::told(0, 4 * a.count)
+}
+
+// Question 3 of a file's bytes, the witness of a grant (kind 0) or a ban (any other), in bytes, low byte first; how many in `count`.
+#[no_mangle]
+pub extern "C" fn tormukai_witness(
+    file: &[u8],
+    office: u32,
+    kind: u32,
+    person: u32,
+    deed: u32,
+    folio: u32,
+    out: &mut [u8],
+) -> Answer
+    ensures { λ a. ⌜ Shows (afterFile (now (file .entry)) (askFault (wordsOf (now (file .entry))) (asking office 0 kind person deed folio))) (InBytes (WitnessOf (wordsOf (now (file .entry))) (asking office 0 kind person deed folio))) (now (out .entry)) a (now (out .exit)) ⌝ }
+{
+    let mut words = [0u32; MAX_WORDS];
+    let r = read(file, &mut words);
+    if r.number != 0 {
+        return ask::refused(r);
+    }
+    let n = file.len() / 4;
+    let q = Question {
+        office: office,
+        rule: 0,
+        kind: kind,
+        person: person,
+        category: 0,
+        deed: deed,
+        other: 0,
+        folio: folio,
+    };
+    witness_bytes(&words[0..n], q, out)
+}
+
+// The verdict on a file's bytes: 33, then 1 to 17 of its words, or none.
+#[no_mangle]
+pub extern "C" fn tormukai_check_file(file: &[u8]) -> Refusal
+    ensures { λ r. ⌜ r ≡ bytesVerdict 1 (now (file .entry)) ⌝ }
+{
+    files::check_bytes(file)
+}
+
+// The verdict on a sheet's words: 1 to 17, or none.
+#[no_mangle]
+pub extern "C" fn tormukai_check(sheet: &[u32]) -> Refusal
+    ensures { λ r. ⌜ r ≡ verdict 1 (now (sheet .entry)) ⌝ }
+{
+    verdict::check(sheet)
+}
+
+// Question 4, whether a list of words is some grant (kind 0) or ban path: 1 yes, 0 no, in `value`.
+#[no_mangle]
+pub extern "C" fn tormukai_is_path(
+    sheet: &[u32],
+    office: u32,
+    kind: u32,
+    person: u32,
+    deed: u32,
+    folio: u32,
+    list: &[u32],
+) -> Answer
+    ensures { λ a. ⌜ TellsPath (now (sheet .entry)) (asking office 0 kind person deed folio) (now (list .entry)) a ⌝ }
+{
+    let q = Question {
+        office: office,
+        rule: 0,
+        kind: kind,
+        person: person,
+        category: 0,
+        deed: deed,
+        other: 0,
+        folio: folio,
+    };
+    ask::is_path(sheet, q, list)
+}
+
+// Question 5, the numbers of the persons in a category, rising; how many in `count`.
+#[no_mangle]
+pub extern "C" fn tormukai_persons_in_category(
+    sheet: &[u32],
+    office: u32,
+    category: u32,
+    out: &mut [u32],
+) -> Answer
+    ensures { λ a. ⌜ ListsPersons (now (sheet .entry)) (seeking office category 0 0 0) (now (out .entry)) a (now (out .exit)) ⌝ }
+{
+    let q = Question {
+        office: office,
+        rule: 0,
+        kind: 0,
+        person: 0,
+        category: category,
+        deed: 0,
+        other: 0,
+        folio: 0,
+    };
+    lists::persons_in_category(sheet, q, out)
+}
+
+// Question 6, the numbers of the persons with a grant path for a deed and folio, rising; how many in `count`.
+#[no_mangle]
+pub extern "C" fn tormukai_persons_with_grant(
+    sheet: &[u32],
+    office: u32,
+    deed: u32,
+    folio: u32,
+    out: &mut [u32],
+) -> Answer
+    ensures { λ a. ⌜ ListsHolders (now (sheet .entry)) (seeking office 0 deed 0 folio) (now (out .entry)) a (now (out .exit)) ⌝ }
+{
+    let q = Question {
+        office: office,
+        rule: 0,
+        kind: 0,
+        person: 0,
+        category: 0,
+        deed: deed,
+        other: 0,
+        folio: folio,
+    };
+    lists::persons_with_grant(sheet, q, out)
+}
+
+// Question 7, the numbers of the folios to which no person has a grant path, rising; how many in `count`.
+#[no_mangle]
+pub extern "C" fn tormukai_folios_out_of_reach(
+    sheet: &[u32],
+    office: u32,
+    out: &mut [u32],
+) -> Answer
+    ensures { λ a. ⌜ ListsUnreached (now (sheet .entry)) (seeking office 0 0 0 0) (now (out .entry)) a (now (out .exit)) ⌝ }
+{
+    let q = Question {
+        office: office,
+        rule: 0,
+        kind: 0,
+        person: 0,
+        category: 0,
+        deed: 0,
+        other: 0,
+        folio: 0,
+    };
+    lists::folios_out_of_reach(sheet, q, out)
+}
+
+// Question 8, the least person, deed and folio that are Both: three words.
+#[no_mangle]
+pub extern "C" fn tormukai_least_triple(sheet: &[u32], office: u32, out: &mut [u32]) -> Answer
+    ensures { λ a. ⌜ ShowsLeastBoth (now (sheet .entry)) (seeking office 0 0 0 0) (now (out .entry)) a (now (out .exit)) ⌝ }
+{
+    let q = Question {
+        office: office,
+        rule: 0,
+        kind: 0,
+        person: 0,
+        category: 0,
+        deed: 0,
+        other: 0,
+        folio: 0,
+    };
+    lists::least_triple(sheet, q, out)
+}
+
+// Question 9, the least person and folio with a grant path for each of two deeds: two words.
+#[no_mangle]
+pub extern "C" fn tormukai_least_holder(
+    sheet: &[u32],
+    office: u32,
+    deed: u32,
+    other: u32,
+    out: &mut [u32],
+) -> Answer
+    ensures { λ a. ⌜ ShowsLeastPair (now (sheet .entry)) (seeking office 0 deed other 0) (now (out .entry)) a (now (out .exit)) ⌝ }
+{
+    let q = Question {
+        office: office,
+        rule: 0,
+        kind: 0,
+        person: 0,
+        category: 0,
+        deed: deed,
+        other: other,
+        folio: 0,
+    };
+    lists::least_holder(sheet, q, out)
+}
+
+// Question 10, the redundant edge rows, rising; how many in `count`.
+#[no_mangle]
+pub extern "C" fn tormukai_redundant_edges(sheet: &[u32], office: u32, out: &mut [u32]) -> Answer
+    ensures { λ a. ⌜ ListsRedundant (now (sheet .entry)) (seeking office 0 0 0 0) (now (out .entry)) a (now (out .exit)) ⌝ }
+{
+    let q = Question {
+        office: office,
+        rule: 0,
+        kind: 0,
+        person: 0,
+        category: 0,
+        deed: 0,
+        other: 0,
+        folio: 0,
+    };
+    lists::redundant_edges(sheet, q, out)
+}
+
+// Joins two one-office sheets into one of two offices.
+#[no_mangle]
+pub extern "C" fn tormukai_join(first: &[u32], second: &[u32], out: &mut [u32]) -> Joined
+    ensures { λ r. ⌜ Joining (now (first .entry)) (now (second .entry)) (now (out .entry)) r (now (out .exit)) ⌝ }
+{
+    join::join(first, second, out)
+}
+
+// Takes one office's sheet out of a sheet; how many words in `count`.
+#[no_mangle]
+pub extern "C" fn tormukai_take_out(sheet: &[u32], office: u32, out: &mut [u32]) -> Answer
+    ensures { λ a. ⌜ TakesOut (now (sheet .entry)) office (now (out .entry)) a (now (out .exit)) ⌝ }
+{
+    takeout::take_out(sheet, office, out)
+}
+
+// The number and place by which looking an identity up in two sheets is refused; 0 throughout where it is found.
+#[no_mangle]
+pub extern "C" fn tormukai_look_up_refusal(
+    first: &[u32],
+    second: &[u32],
+    class: u32,
+    number: u32,
+    variant: u32,
+) -> Refusal
+    ensures { λ r. ⌜ r ≡ lookFault (now (first .entry)) (now (second .entry)) (identity class number variant) ⌝ }
+{
+    lookup::look_up_refusal(first, second, class, number, variant)
+}

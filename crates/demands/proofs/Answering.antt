@@ -1,0 +1,84 @@
+-- Demand 2 of the forms that the entries' statements take: what stands in front of the output is what was asked for, and 26 is told only where there is none.
+-- Assumes nothing.
+use Prim.Native.Nat.{ℕ, _<_}
+use mathlib.Core.Path.{_≡_, refl, sym, ap, subst}
+use mathlib.Core.Bool.{Bool, true, false, true≢false}
+use mathlib.Core.List.{List, [], _∷_, _++_}
+use mathlib.Core.Logic.{_↔_}
+use native.Mathlib.Omega.{arith}
+use lib.ListN.{length, take, drop}
+use Rattle.tables.specs.Office.{View}
+use Rattle.sheet.specs.declared.Refusal.{Refusal}
+use Rattle.sheet.specs.Refusals.{refuse}
+use Rattle.meaning.specs.Paths.{Side, grant, ban, HasPath}
+use Rattle.meaning.specs.Answers.{Says, answered as number-of, AnswerIs, gives, told, other, JointIs}
+use Rattle.meaning.specs.Source.{Authorised, Prior, Yields, Applicable}
+use Rattle.meaning.proofs.Axioms.{a1-a2, says}
+use Rattle.meaning.proofs.Offices.{grant-first, deny-first, first-applicable}
+use Rattle.ask.specs.declared.Answer.{Answer}
+use Rattle.ask.specs.Replies.{Replies, refused, answered, Shows, missing, short, written}
+use Rattle.tables.specs.Count.{numberOf}
+use Rattle.demands.specs.Demands.{front}
+
+-- ---- a reply
+
+module _ (refusal : Refusal) (P : ℕ → ℕ → Type 0) where
+  -- what is told of a question that is not refused
+  pub told-is : {a : Answer} → Replies refusal P a → a .number ≡ 0 → P (a .value) (a .count)
+  told-is (refused h) z = absurd (h z)
+  told-is (answered v c y p) z = p
+
+module _ (g : View) (p d f v : ℕ) (x : AnswerIs g p d f v) where
+  pub four : v < 4
+  four = subst (λ (n : ℕ). n < 4) (sym (x .number)) (go (x .grants) (x .bans))
+    where
+      go : (a b : Bool) → number-of a b < 4
+      go false false = omega arith
+      go true false = omega arith
+      go false true = omega arith
+      go true true = omega arith
+
+  -- a number gives a side exactly where the source's axiom does
+  pub gives-exactly : (side : Side) → (gives side v ≡ true) ↔ Authorised g side p d f
+  gives-exactly side = (λ e. a1-a2 g p d f side .0 (subst (λ (b : Bool). Says b (HasPath g side p d f)) e (says g p d f side v x)), λ w. go (gives side v) refl (a1-a2 g p d f side .1 w))
+    where
+      go : (b : Bool) → gives side v ≡ b → HasPath g side p d f → gives side v ≡ true
+      go true e h = e
+      go false e h = absurd (subst (λ (b : Bool). Says b (HasPath g side p d f)) e (says g p d f side v x) h)
+
+module _ (at : ℕ → View) (n p d f rule v c : ℕ) (x : JointIs at n rule p d f (record { answer = v; office = c })) where
+  -- rules 1 and 2, one law over the side
+  pub by-priority : (side : Side) → rule ≡ told side → ((v ≡ told side) ↔ Prior at n side p d f) × ((v ≡ told (other side)) ↔ Yields at n side p d f)
+  by-priority grant e = grant-first at n p d f (record { answer = v; office = c }) (subst (λ (r : ℕ). JointIs at n r p d f (record { answer = v; office = c })) e x)
+  by-priority ban e = deny-first at n p d f (record { answer = v; office = c }) (subst (λ (r : ℕ). JointIs at n r p d f (record { answer = v; office = c })) e x)
+
+  pub by-order : rule ≡ 3 → (side : Side) → (gives side v ≡ true) ↔ Applicable at n side p d f
+  by-order e = first-applicable at n p d f (record { answer = v; office = c }) (subst (λ (r : ℕ). JointIs at n r p d f (record { answer = v; office = c })) e x)
+
+-- 1 for yes
+pub yes-is : (b : Bool) (v : ℕ) → v ≡ numberOf b → (v ≡ 1) ↔ (b ≡ true)
+yes-is true v e = (λ x. refl, λ x. e)
+yes-is false v e = (λ x. absurd (omega (arith, x, e)), λ x. absurd (true≢false (sym x)))
+
+-- ---- a list shown
+
+-- what was written in front is what is read there
+read-front : (xs ys : List ℕ) → take (length xs) (xs ++ ys) ≡ xs
+read-front [] ys = refl
+read-front (x ∷ xs) ys = ap (λ (l : List ℕ). x ∷ l) (read-front xs ys)
+
+module _ (refusal : Refusal) (R : List ℕ → Type 0) (out : List ℕ) where
+  pub front-is : {a : Answer} {out′ : List ℕ} → Shows refusal R out a out′ → a .number ≡ 0 → R (front a out′)
+  unfolding refuse
+  front-is (refused h) z = absurd (h z)
+  front-is (missing y n) z = absurd (omega (arith, z))
+  front-is (short ws y x l) z = absurd (omega (arith, z))
+  front-is (written ws y x l) z = subst R (sym (read-front ws (drop (length ws) out))) x
+
+  -- 26 exactly where there is none
+  pub missing-only : {a : Answer} {out′ : List ℕ} → refusal .number ≡ 0 → Shows refusal R out a out′ → (a .number ≡ 26) ↔ ((ws : List ℕ) → R ws → ⊥)
+  unfolding refuse
+  missing-only z (refused h) = absurd (h z)
+  missing-only z (missing y n) = (λ e. n, λ u. refl)
+  missing-only z (short ws y x l) = (λ e. absurd (omega (arith, e)), λ u. absurd (u ws x))
+  missing-only z (written ws y x l) = (λ e. absurd (omega (arith, e)), λ u. absurd (u ws x))

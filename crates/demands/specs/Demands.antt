@@ -1,0 +1,202 @@
+-- The three demands of the register on one page, of the public functions' own statements. The code is proved against those, so what is said here of any result is said of what the code returns.
+-- Every function is also proved to come back and to do nothing undefined, for all inputs: that is the kit's own check of each, and needs no statement.
+-- Assumes nothing.
+use Prim.Native.Nat.{ℕ, _+_, _-_, _*_, _<_, _≤_}
+use mathlib.Core.Path.{_≡_}
+use mathlib.Core.Bool.{true, false}
+use mathlib.Core.List.{List, [], _∷_, _++_}
+use mathlib.Core.Logic.{_↔_}
+use lib.ListN.{length, take, drop}
+use Rattle.tables.specs.Key.{Key}
+use Rattle.tables.specs.Table.{marksAt}
+use Rattle.sheet.specs.declared.Refusal.{Refusal}
+use Rattle.sheet.specs.Limits.{maxNodes, maxEdges, sheetWords}
+use Rattle.sheet.specs.Refusals.{none, _orElse_}
+use Rattle.sheet.specs.Rows.{headerOf}
+use Rattle.sheet.specs.Accepted.{Accepted}
+use Rattle.sheet.specs.Named.{tablesOf, seenAt}
+use Rattle.meaning.specs.Paths.{Side, isPath}
+use Rattle.meaning.specs.Answers.{gives, told, other, jointly}
+use Rattle.meaning.specs.Forms.{fewer}
+use Rattle.meaning.specs.Questions.{WitnessIs, PersonsAre, HoldersAre, UnreachedAre, BothAt, LeastBothIs, HoldsBoth, LeastPairIs, RedundantAre}
+use Rattle.meaning.specs.Join.{officesOf, IsJoin, IsTaken}
+use Rattle.meaning.specs.Source.{Authorised, Prior, Yields, Applicable}
+use Rattle.ask.specs.declared.Question.{Question}
+use Rattle.ask.specs.declared.Answer.{Answer}
+use Rattle.ask.specs.Asked.{badOffice, askFault, jointFault, plain, afterSheet, sideOf}
+use Rattle.ask.specs.Replies.{tells, Shows}
+use Rattle.ask.specs.Promises.{AnswersAtOffice, AnswersJointly, WitnessOf, Witnesses, TellsPath, atFirst}
+use Rattle.lists.specs.Sought.{unknownCategory, unknownRight, badPair}
+use Rattle.lists.specs.Promises.{ListsPersons, ListsHolders, ListsUnreached, ShowsLeastBoth, ShowsLeastPair, ListsRedundant}
+use Rattle.opened.specs.declared.Which.{Which}
+use Rattle.opened.specs.declared.Which.the-variants.{AtOffice, Joint, Witness, PersonsInCategory, PersonsWithGrant, FoliosOutOfReach, LeastTriple, LeastHolder, RedundantEdges}
+use Rattle.opened.specs.Asking.{questionOf, Answers}
+use Rattle.files.specs.Bytes.{wordsOf}
+use Rattle.counter.specs.Filed.{afterFile, InBytes}
+use Rattle.lookup.specs.Looked.{lookFault, LooksUp}
+use Rattle.join.specs.declared.Joined.{Joined}
+use Rattle.join.specs.Joined.{sharedNodes, sharedEdges, unionNodes, unionEdges, joinFault, Joining}
+use Rattle.joining.specs.JoinedFiles.{filesFault, JoinsFiles}
+use Rattle.takeout.specs.Promises.{TakesOut}
+
+-- ==== Demand 1: a bad sheet or question gets the first number that applies in the table, under no other condition, and all lent memory stays untouched
+
+-- what an answer refuses by: its number and place
+abbrev pub saidIn : Answer → Refusal
+saidIn a = record { number = a .number; sheet = a .sheet; row = a .row }
+
+abbrev pub saidOf : Joined → Refusal
+saidOf j = record { number = j .number; sheet = j .sheet; row = j .row }
+
+-- the table's judgement of a question that gives a list: what refuses it, written down as the table's lines in order; then 26 where there is no such list; then 25 where the output is shorter
+pub data Judged (refusal : Refusal) (R : List ℕ → Type 0) (room : ℕ) : Refusal → Type 0 where
+  by-the-table : (refusal .number ≡ 0 → ⊥) → Judged refusal R room refusal
+  no-such : refusal .number ≡ 0 → ((ws : List ℕ) → R ws → ⊥) → Judged refusal R room (plain 26)
+  too-short : (ws : List ℕ) → refusal .number ≡ 0 → R ws → room < length ws → Judged refusal R room (plain 25)
+  not-refused : (ws : List ℕ) → refusal .number ≡ 0 → R ws → length ws ≤ room → Judged refusal R room none
+
+-- what was said is the table's judgement, which gives no other; and where it is a refusal, the lent output is as it was
+pub record Keeps (table : Refusal → Type 0) (said : Refusal) (out out′ : List ℕ) : Type 0 where
+  pub first : table said
+  pub no-other : (r : Refusal) → table r → r ≡ said
+  pub untouched : (said .number ≡ 0 → ⊥) → out′ ≡ out
+
+-- of a question that gives a list
+abbrev pub KeepsTable : (ℕ → Refusal) → ℕ → (List ℕ → Type 0) → List ℕ → Answer → List ℕ → Type 0
+KeepsTable after k R out a out′ = Keeps (Judged (after k) R (length out)) (saidIn a) out out′
+
+-- what the entry for a question promises of bare words
+abbrev pub OfWords : Which → List ℕ → Question → List ℕ → Answer → List ℕ → Type 0
+OfWords AtOffice s q out a out′ = AnswersAtOffice (afterSheet s) s q a × (out′ ≡ out)
+OfWords Joint s q out a out′ = AnswersJointly (afterSheet s) s q a × (out′ ≡ out)
+OfWords Witness s q out a out′ = Witnesses s q out a out′
+OfWords PersonsInCategory s q out a out′ = ListsPersons s q out a out′
+OfWords PersonsWithGrant s q out a out′ = ListsHolders s q out a out′
+OfWords FoliosOutOfReach s q out a out′ = ListsUnreached s q out a out′
+OfWords LeastTriple s q out a out′ = ShowsLeastBoth s q out a out′
+OfWords LeastHolder s q out a out′ = ShowsLeastPair s q out a out′
+OfWords RedundantEdges s q out a out′ = ListsRedundant s q out a out′
+
+pub record Demand1 : Type 0 where
+  pub question-1 : (s : List ℕ) (q : Question) {a : Answer} → AnswersAtOffice (afterSheet s) s q a → saidIn a ≡ afterSheet s (askFault s q)
+  pub question-2 : (s : List ℕ) (q : Question) {a : Answer} → AnswersJointly (afterSheet s) s q a → saidIn a ≡ afterSheet s (jointFault s q)
+  pub question-3 : (s : List ℕ) (q : Question) (out : List ℕ) {a : Answer} {out′ : List ℕ} → Witnesses s q out a out′
+      → KeepsTable (afterSheet s) (askFault s q) (WitnessIs (seenAt s (q .office)) (sideOf (q .kind)) (q .person) (q .deed) (q .folio)) out a out′
+  -- it refuses only for the sheet and office
+  pub question-4 : (s : List ℕ) (q : Question) (list : List ℕ) {a : Answer} → TellsPath s q list a → saidIn a ≡ afterSheet s (badOffice (headerOf s) (q .office))
+  pub question-5 : (s : List ℕ) (q : Question) (out : List ℕ) {a : Answer} {out′ : List ℕ} → ListsPersons s q out a out′
+      → KeepsTable (afterSheet s) (badOffice (headerOf s) (q .office) orElse unknownCategory s q) (PersonsAre (seenAt s (q .office)) (q .category)) out a out′
+  pub question-6 : (s : List ℕ) (q : Question) (out : List ℕ) {a : Answer} {out′ : List ℕ} → ListsHolders s q out a out′
+      → KeepsTable (afterSheet s) (badOffice (headerOf s) (q .office) orElse unknownRight s q) (HoldersAre (seenAt s (q .office)) (q .deed) (q .folio)) out a out′
+  pub question-7 : (s : List ℕ) (q : Question) (out : List ℕ) {a : Answer} {out′ : List ℕ} → ListsUnreached s q out a out′
+      → KeepsTable (afterSheet s) (badOffice (headerOf s) (q .office)) (UnreachedAre (seenAt s (q .office))) out a out′
+  pub question-8 : (s : List ℕ) (q : Question) (out : List ℕ) {a : Answer} {out′ : List ℕ} → ShowsLeastBoth s q out a out′
+      → KeepsTable (afterSheet s) (badOffice (headerOf s) (q .office)) (LeastBothIs (seenAt s (q .office))) out a out′
+  pub question-9 : (s : List ℕ) (q : Question) (out : List ℕ) {a : Answer} {out′ : List ℕ} → ShowsLeastPair s q out a out′
+      → KeepsTable (afterSheet s) (badOffice (headerOf s) (q .office) orElse badPair s q) (LeastPairIs (seenAt s (q .office)) (q .deed) (q .other)) out a out′
+  pub question-10 : (s : List ℕ) (q : Question) (out : List ℕ) {a : Answer} {out′ : List ℕ} → ListsRedundant s q out a out′
+      → KeepsTable (afterSheet s) (badOffice (headerOf s) (q .office)) (RedundantAre s (q .office)) out a out′
+  pub take-out : (s : List ℕ) (office : ℕ) (out : List ℕ) {a : Answer} {out′ : List ℕ} → TakesOut s office out a out′
+      → KeepsTable (afterSheet s) (badOffice (headerOf s) office) (IsTaken s (office - 1) 1) out a out′
+  -- 28 to 30 and 25 are lines of its table
+  pub join : (a b out : List ℕ) {r : Joined} {out′ : List ℕ} → Joining a b out r out′ → Keeps (λ x. x ≡ joinFault a b (length out)) (saidOf r) out out′
+  -- of two files: 33 and 1 to 17 of the first, then of the second
+  pub join-files : (f g out : List ℕ) {r : Joined} {out′ : List ℕ} → JoinsFiles f g out r out′ → Keeps (λ x. x ≡ filesFault f g (length out)) (saidOf r) out out′
+  -- an opened sheet, whatever its counts say, promises what the entries above do of the words that it holds
+  pub opened : (which : Which) (s : List ℕ) (q : Question) (out : List ℕ) (a : Answer) (out′ : List ℕ) → Answers (questionOf which) s q out a out′ → OfWords which s q out a out′
+  -- by the counter, of a file's bytes: 33 first, then the sheet's, then the question's
+  pub counter-1 : (f : List ℕ) (q : Question) {a : Answer} → AnswersAtOffice (afterFile f) (wordsOf f) q a → saidIn a ≡ afterFile f (askFault (wordsOf f) q)
+  pub counter-2 : (f : List ℕ) (q : Question) {a : Answer} → AnswersJointly (afterFile f) (wordsOf f) q a → saidIn a ≡ afterFile f (jointFault (wordsOf f) q)
+  pub counter-3 : (f : List ℕ) (q : Question) (out : List ℕ) {a : Answer} {out′ : List ℕ} → Shows (afterFile f (askFault (wordsOf f) q)) (InBytes (WitnessOf (wordsOf f) q)) out a out′
+      → KeepsTable (afterFile f) (askFault (wordsOf f) q) (InBytes (WitnessOf (wordsOf f) q)) out a out′
+  -- a refused lookup gives the empty part, and no other does
+  pub look-up : (a b : List ℕ) (k : Key) {ws : List ℕ} → LooksUp a b k ws → (ws ≡ []) ↔ (lookFault a b k .number ≡ 0 → ⊥)
+
+-- ==== Demand 2: the answers are those of category-based access control, exactly as its paths exist in the office asked, with the shortest path shown; a path is refused only where there is none
+
+-- the words that an answer counts, in front of the output
+abbrev pub front : Answer → List ℕ → List ℕ
+front a out = take (a .count) out
+
+-- words are a grant or ban path as the question names it, at the office asked
+abbrev pub PathOf : List ℕ → Question → List ℕ → Type 0
+PathOf s q ws = isPath (seenAt s (q .office)) (sideOf (q .kind)) (q .person) (q .deed) (q .folio) ws ≡ true
+
+pub record Demand2 : Type 0 where
+  -- granted, banned, both or undetermined: an office grants exactly where (a1) has it, and bans exactly where (a2) does
+  pub answers : (s : List ℕ) (q : Question) {a : Answer} → AnswersAtOffice (afterSheet s) s q a → a .number ≡ 0
+      → (a .value < 4) × ((side : Side) → (gives side (a .value) ≡ true) ↔ Authorised (seenAt s (q .office)) side (q .person) (q .deed) (q .folio))
+  -- Definition 34: grant-first (rule 1) and deny-first (rule 2) tell their side where some office has it, and the other where some office has that and none the first
+  pub priority : (s : List ℕ) (q : Question) {a : Answer} → AnswersJointly (afterSheet s) s q a → a .number ≡ 0 → (side : Side) → q .rule ≡ told side
+      → ((a .value ≡ told side) ↔ Prior (seenAt s) (officesOf s) side (q .person) (q .deed) (q .folio))
+      × ((a .value ≡ told (other side)) ↔ Yields (seenAt s) (officesOf s) side (q .person) (q .deed) (q .folio))
+  -- Definition 34, first-applicable
+  pub applicable : (s : List ℕ) (q : Question) {a : Answer} → AnswersJointly (afterSheet s) s q a → a .number ≡ 0 → q .rule ≡ 3
+      → (side : Side) → (gives side (a .value) ≡ true) ↔ Applicable (seenAt s) (officesOf s) side (q .person) (q .deed) (q .folio)
+  -- the path shown is one, and none has fewer nodes, or as many and comes before it in dictionary order
+  pub shortest : (s : List ℕ) (q : Question) (out : List ℕ) {a : Answer} {out′ : List ℕ} → Witnesses s q out a out′ → a .number ≡ 0
+      → PathOf s q (front a out′) × ((ws : List ℕ) → PathOf s q ws → fewer ws (front a out′) ≡ false)
+  -- a path is refused only where there is none, and there it is
+  pub refused-only : (s : List ℕ) (q : Question) (out : List ℕ) {a : Answer} {out′ : List ℕ} → Witnesses s q out a out′ → afterSheet s (askFault s q) .number ≡ 0
+      → (a .number ≡ 26) ↔ ((ws : List ℕ) → PathOf s q ws → ⊥)
+  pub is-path : (s : List ℕ) (q : Question) (list : List ℕ) {a : Answer} → TellsPath s q list a → a .number ≡ 0 → (a .value ≡ 1) ↔ PathOf s q list
+  -- the lists are exactly these, rising
+  pub persons : (s : List ℕ) (q : Question) (out : List ℕ) {a : Answer} {out′ : List ℕ} → ListsPersons s q out a out′ → a .number ≡ 0 → PersonsAre (seenAt s (q .office)) (q .category) (front a out′)
+  pub holders : (s : List ℕ) (q : Question) (out : List ℕ) {a : Answer} {out′ : List ℕ} → ListsHolders s q out a out′ → a .number ≡ 0 → HoldersAre (seenAt s (q .office)) (q .deed) (q .folio) (front a out′)
+  pub unreached : (s : List ℕ) (q : Question) (out : List ℕ) {a : Answer} {out′ : List ℕ} → ListsUnreached s q out a out′ → a .number ≡ 0 → UnreachedAre (seenAt s (q .office)) (front a out′)
+  pub redundant : (s : List ℕ) (q : Question) (out : List ℕ) {a : Answer} {out′ : List ℕ} → ListsRedundant s q out a out′ → a .number ≡ 0 → RedundantAre s (q .office) (front a out′)
+  -- the least triple and the least pair, refused by 26 only where there is none
+  pub least-both : (s : List ℕ) (q : Question) (out : List ℕ) {a : Answer} {out′ : List ℕ} → ShowsLeastBoth s q out a out′
+      → (a .number ≡ 0 → LeastBothIs (seenAt s (q .office)) (front a out′))
+      × (afterSheet s (badOffice (headerOf s) (q .office)) .number ≡ 0 → (a .number ≡ 26) ↔ ((ws : List ℕ) → BothAt (seenAt s (q .office)) ws → ⊥))
+  pub least-pair : (s : List ℕ) (q : Question) (out : List ℕ) {a : Answer} {out′ : List ℕ} → ShowsLeastPair s q out a out′
+      → (a .number ≡ 0 → LeastPairIs (seenAt s (q .office)) (q .deed) (q .other) (front a out′))
+      × (afterSheet s (badOffice (headerOf s) (q .office) orElse badPair s q) .number ≡ 0 → (a .number ≡ 26) ↔ ((ws : List ℕ) → HoldsBoth (seenAt s (q .office)) (q .deed) (q .other) ws → ⊥))
+
+-- ==== Demand 3: any two well-formed one-office sheets whose union keeps the limits and fits the buffer join into that union, each identity and relation once, marked by office
+
+-- a well-formed sheet of so many offices
+pub record Sheet (offices : ℕ) (s : List ℕ) : Type 0 where
+  pub formed : Accepted s
+  pub count : officesOf s ≡ offices
+
+-- words stand in front of the output, and nothing behind them is changed
+abbrev pub InFront : List ℕ → List ℕ → List ℕ → Type 0
+InFront ws out out′ = out′ ≡ ws ++ drop (length ws) out
+
+-- j is the union of a and b: every identity and relation has the mark 1 where a has it and 2 where b has it, and j is well-formed, so each stands once
+pub record Union (a b j : List ℕ) : Type 0 where
+  pub sheet : Sheet 2 j
+  pub identities : (k : Key) → marksAt (tablesOf j .nodes) k ≡ marksAt (tablesOf a .nodes) k + 2 * marksAt (tablesOf b .nodes) k
+  pub relations : (k : Key) → marksAt (tablesOf j .edges) k ≡ marksAt (tablesOf a .edges) k + 2 * marksAt (tablesOf b .edges) k
+  -- each office of the joint sheet sees what it saw
+  pub offices : IsJoin a b j
+
+-- what a join that is not refused returns and leaves
+pub record JointSheet (a b out : List ℕ) (r : Joined) (out′ : List ℕ) : Type 0 where
+  pub sheet : List ℕ
+  pub union : Union a b sheet
+  pub holds : InFront sheet out out′
+  pub words : r .words ≡ length sheet
+  -- joint nodes plus shared identities equal the two node counts added; the same for edges; shared is the number of identities found in both inputs
+  pub nodes : r .nodes + r .sharednodes ≡ headerOf a .nodes + headerOf b .nodes
+  pub edges : r .edges + r .sharededges ≡ headerOf a .edges + headerOf b .edges
+  pub shared-nodes : r .sharednodes ≡ sharedNodes a b
+  pub shared-edges : r .sharededges ≡ sharedEdges a b
+  -- either sheet comes back out exactly
+  pub first-back : (lent : List ℕ) {x : Answer} {lent′ : List ℕ} → length a ≤ length lent → TakesOut sheet 1 lent x lent′ → (x ≡ tells 0 (length a)) × InFront a lent lent′
+  pub second-back : (lent : List ℕ) {x : Answer} {lent′ : List ℕ} → length b ≤ length lent → TakesOut sheet 2 lent x lent′ → (x ≡ tells 0 (length b)) × InFront b lent lent′
+
+pub record Demand3 : Type 0 where
+  pub joins : (a b out : List ℕ) {r : Joined} {out′ : List ℕ} → Sheet 1 a → Sheet 1 b → unionNodes a b ≤ maxNodes → unionEdges a b ≤ maxEdges → sheetWords (unionNodes a b) (unionEdges a b) ≤ length out
+      → Joining a b out r out′ → (r .number ≡ 0) × JointSheet a b out r out′
+  -- no two different pairs share a joint sheet
+  pub no-two-pairs : (a b out a′ b′ lent : List ℕ) {r r′ : Joined} {out′ lent′ : List ℕ} → Joining a b out r out′ → r .number ≡ 0 → Joining a′ b′ lent r′ lent′ → r′ .number ≡ 0
+      → take (r .words) out′ ≡ take (r′ .words) lent′ → (a ≡ a′) × (b ≡ b′)
+  -- joining the two sheets taken from any well-formed two-office sheet gives it again
+  pub joins-again : (s p q out : List ℕ) {r : Joined} {out′ : List ℕ} → Sheet 2 s → IsTaken s 0 1 p → IsTaken s 1 1 q → length s ≤ length out
+      → Joining p q out r out′ → (r .number ≡ 0) × InFront s out out′
+  -- the joint answer under each rule is the offices' own answers combined: those that question 1 tells of the two sheets, 0 where it refuses an identity that the office does not know
+  pub combined : (a b j : List ℕ) (q : Question) {x y r : Answer} → Sheet 1 a → Sheet 1 b → IsJoin a b j → jointFault j q ≡ 0
+      → AnswersAtOffice (afterSheet a) a (atFirst q) x → AnswersAtOffice (afterSheet b) b (atFirst q) y → AnswersJointly (afterSheet j) j q r
+      → r ≡ tells (jointly (q .rule) (x .value ∷ y .value ∷ []) .answer) (jointly (q .rule) (x .value ∷ y .value ∷ []) .office)

@@ -1,0 +1,55 @@
+-- `fleet_join::run` is safe: what is stored is a part of the output.
+-- Assumes nothing.
+use borrow.Author.Needs.{needs}
+use Rattle.joining.proofs.Joining.{joint-part}
+use Rattle.fleet_join.proofs.run.Statement.{statement}
+use Rattle.fleet_join.proofs.run.Tie as tie
+
+slice-aggregate-join-files : tie.Need-slice-aggregate-join-files
+slice-aggregate-join-files c = search needs
+
+join-files-requires : tie.Need-join-files-requires
+join-files-requires c κs = search needs
+
+cast-n : tie.Need-cast-n
+cast-n c = search needs
+
+mul-n : tie.Need-mul-n
+mul-n c = search needs
+
+sub-store : tie.Need-sub-store
+sub-store c = search needs
+
+part-store-start : tie.Need-part-store-start
+part-store-start c = search needs
+
+part-store-end : tie.Need-part-store-end
+part-store-end c = joint-part _ _ _ _ (c .before .before .before .before .before .join-files .ensures) (c .before .before .if1 .taken)
+
+store-requires : tie.Need-store-requires
+store-requires c κs = search needs
+
+returns : tie.Need-returns
+returns c = search needs
+
+tell-requires : tie.Need-tell-requires
+tell-requires c κs = search needs
+
+returns-2 : tie.Need-returns-2
+returns-2 c = search needs
+
+pub run-spec : {M : Type 1} → statement M
+run-spec =
+    tie.close
+    (tie.spec
+    slice-aggregate-join-files
+    join-files-requires
+    cast-n
+    mul-n
+    sub-store
+    part-store-start
+    part-store-end
+    store-requires
+    returns
+    tell-requires
+    returns-2)

@@ -1,0 +1,43 @@
+-- Any two answers that a question's statement allows are equal, and so is what they leave in the output; an opened sheet answers as the bare words do.
+-- Assumes nothing.
+use Prim.Native.Nat.{ℕ}
+use mathlib.Core.Path.{_≡_, sym, subst, _∙_}
+use mathlib.Core.List.{List}
+use denote.Ref.{RefT, now}
+use Rattle.sheet.specs.Refusals.{_is_}
+use Rattle.sheet.specs.Rows.{headerOf}
+use Rattle.sheet.specs.Named.{seenAt}
+use Rattle.ask.specs.declared.Question.{Question}
+use Rattle.ask.specs.declared.Answer.{Answer}
+use Rattle.ask.specs.Asked.{sideOf}
+use Rattle.ask.specs.Promises.{TellsPath}
+use Rattle.ask.proofs.Single.{replies-one, answer-single, joint-single, witness-single, listed-single}
+use Rattle.lists.proofs.Single.{persons-single, holders-single, unreached-single, triple-single, pair-single, redundant-single}
+use Rattle.opened.specs.declared.Opened.{Opened}
+use Rattle.opened.specs.declared.Which.{Which}
+use Rattle.opened.specs.declared.Which.the-variants.{AtOffice, Joint, Witness, PersonsInCategory, PersonsWithGrant, FoliosOutOfReach, LeastTriple, LeastHolder, RedundantEdges}
+use Rattle.opened.specs.Asking.{questionOf, Answers}
+
+-- every question but question 4
+pub answers-one : (which : Which) (s : List ℕ) (q : Question) (before : List ℕ) {a b : Answer} {after after′ : List ℕ} → Answers (questionOf which) s q before a after → Answers (questionOf which) s q before b after′ → (a ≡ b) × (after ≡ after′)
+unfolding questionOf Answers
+answers-one AtOffice s q before x y = (replies-one _ _ (answer-single (seenAt s (q .office)) (q .person) (q .deed) (q .folio)) (x .0) (y .0), x .1 ∙ sym (y .1))
+answers-one Joint s q before x y = (replies-one _ _ (joint-single (seenAt s) (headerOf s .offices) (q .rule) (q .person) (q .deed) (q .folio)) (x .0) (y .0), x .1 ∙ sym (y .1))
+answers-one Witness s q before x y = witness-single (seenAt s (q .office)) (sideOf (q .kind)) (q .person) (q .deed) (q .folio) _ before x y
+answers-one PersonsInCategory s q before x y = persons-single (seenAt s (q .office)) _ before (q .category) x y
+answers-one PersonsWithGrant s q before x y = holders-single (seenAt s (q .office)) _ before (q .deed) (q .folio) x y
+answers-one FoliosOutOfReach s q before x y = unreached-single (seenAt s (q .office)) _ before x y
+answers-one LeastTriple s q before x y = triple-single (seenAt s (q .office)) _ before x y
+answers-one LeastHolder s q before x y = pair-single (seenAt s (q .office)) _ before (q .deed) (q .other) x y
+answers-one RedundantEdges s q before x y = redundant-single s (q .office) _ before x y
+
+-- question 4
+pub list-one : (s : List ℕ) (q : Question) (list : List ℕ) {a b : Answer} → TellsPath s q list a → TellsPath s q list b → a ≡ b
+list-one s q list x y = replies-one _ _ (listed-single _) x y
+
+-- an opened sheet, made up by hand or not, answers as the words that it holds
+pub opened-answers : (which : Which) (o : Opened) (words : RefT (List ℕ)) (q : Question) (before : List ℕ) {a b : Answer} {after after′ : List ℕ} → o .words ≡ words → Answers (questionOf which) (now (o .words)) q before a after → Answers (questionOf which) (now words) q before b after′ → (a ≡ b) × (after ≡ after′)
+opened-answers which o words q before {a} {b} {after} {after′} e x = answers-one which (now words) q before (subst (λ (r : RefT (List ℕ)). Answers (questionOf which) (now r) q before a after) e x)
+
+pub opened-list : (o : Opened) (words : RefT (List ℕ)) (q : Question) (list : List ℕ) {a b : Answer} → o .words ≡ words → TellsPath (now (o .words)) q list a → TellsPath (now words) q list b → a ≡ b
+opened-list o words q list {a} {b} e x = list-one (now words) q list (subst (λ (r : RefT (List ℕ)). TellsPath (now r) q list a) e x)

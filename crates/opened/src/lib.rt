@@ -1,0 +1,104 @@
+// The opened sheet: the caller's words held in a struct, and asked many questions. Each question checks the words again.
+use ask::Answer;
+use ask::Question;
+use sheet::Header;
+ghost use mathlib.Core.Path.{_≡_};
+ghost use Rattle.sheet.specs.Rows.{word, headerOf};
+ghost use Rattle.ask.specs.Promises.{TellsPath};
+ghost use Rattle.opened.specs.Asking.{questionOf, Answers};
+
+// A sheet that was opened: the caller's words, and the counts that its header names. No question looks at the counts.
+pub struct Opened<'a> {
+    pub words: &'a [u32],
+    pub nodes: u32,
+    pub edges: u32,
+}
+
+// Which question is asked: all but question 4, which is asked of a list.
+pub enum Which {
+    AtOffice,
+    Joint,
+    Witness,
+    PersonsInCategory,
+    PersonsWithGrant,
+    FoliosOutOfReach,
+    LeastTriple,
+    LeastHolder,
+    RedundantEdges,
+}
+
+// The word at a place; 0 where there are too few words.
+fn word_at(words: &[u32], i: usize) -> u32
+    ensures { λ r. ⌜ r ≡ word (now (words .entry)) i ⌝ }
+{
+    if i < words.len() {
+        return words[i];
+    }
+    0
+}
+
+// The header that the words begin with; 0 for each word that is not there.
+fn header_named(words: &[u32]) -> Header
+    ensures { λ r. ⌜ r ≡ headerOf (now (words .entry)) ⌝ }
+{
+    Header {
+        form: word_at(words, 0),
+        offices: word_at(words, 1),
+        nodes: word_at(words, 2),
+        edges: word_at(words, 3),
+        nodeoffset: word_at(words, 4),
+        edgeoffset: word_at(words, 5),
+    }
+}
+
+// A question of bare words. Questions 1 and 2 leave the output as it was.
+fn asked(sheet: &[u32], which: Which, q: Question, out: &mut [u32]) -> Answer
+    ensures { λ a. ⌜ Answers (questionOf which) (now (sheet .entry)) q (now (out .entry)) a (now (out .exit)) ⌝ }
+{
+    match which {
+        Which::AtOffice => ask::answer_at_office(sheet, q),
+        Which::Joint => ask::joint_answer(sheet, q),
+        Which::Witness => ask::witness(sheet, q, out),
+        Which::PersonsInCategory => lists::persons_in_category(sheet, q, out),
+        Which::PersonsWithGrant => lists::persons_with_grant(sheet, q, out),
+        Which::FoliosOutOfReach => lists::folios_out_of_reach(sheet, q, out),
+        Which::LeastTriple => lists::least_triple(sheet, q, out),
+        Which::LeastHolder => lists::least_holder(sheet, q, out),
+        Which::RedundantEdges => lists::redundant_edges(sheet, q, out),
+    }
+}
+
+// Opens a sheet. Nothing is refused, and nothing is checked: each question does that.
+pub fn open<'a>(words: &'a [u32]) -> Opened<'a>
+    ensures { λ r. ⌜ (r .words ≡ words .entry) × (r .nodes ≡ headerOf (now (words .entry)) .nodes) × (r .edges ≡ headerOf (now (words .entry)) .edges) ⌝ }
+{
+    let h = header_named(words);
+    Opened {
+        words,
+        nodes: h.nodes,
+        edges: h.edges,
+    }
+}
+
+impl<'a> Opened<'a> {
+    // Any question but question 4: what the bare words answer, whatever the counts say.
+    pub fn ask(self, which: Which, q: Question, out: &mut [u32]) -> Answer
+        ensures { λ a. ⌜ Answers (questionOf which) (now (self .entry .words)) q (now (out .entry)) a (now (out .exit)) ⌝ }
+    {
+        asked(self.words, which, q, out)
+    }
+
+    // Question 4: what the bare words answer, whatever the counts say.
+    pub fn is_path(self, q: Question, list: &[u32]) -> Answer
+        ensures { λ a. ⌜ TellsPath (now (self .entry .words)) q (now (list .entry)) a ⌝ }
+    {
+        ask::is_path(self.words, q, list)
+    }
+}
+
+// Opens a sheet and asks it one question, for callers that hold no opened sheet.
+pub fn open_and_ask(sheet: &[u32], which: Which, q: Question, out: &mut [u32]) -> Answer
+    ensures { λ a. ⌜ Answers (questionOf which) (now (sheet .entry)) q (now (out .entry)) a (now (out .exit)) ⌝ }
+{
+    open(sheet).ask(which, q, out)
+}

@@ -1,0 +1,176 @@
+/* The rights sheet of a ship register, from C and C++.
+ *
+ * The functions are those of the static library `libcounter.a`, which is proved: for every input each returns, and its
+ * result and what it writes are what its statement in docs/STATEMENTS.md says. It is x86-64 code.
+ *
+ * A FILE is a sheet's bytes as they stand on disk, each word four bytes, low byte first. A SHEET is its words. Any bytes and
+ * any words may be passed, and any numbers: what is wrong with them is a refusal.
+ *
+ * A REFUSAL has the number of the table of refusals and a place: for 33, 1 to 17 and 28 the sheet (1 where there is one
+ * sheet), and for 6 to 17 also the row's index in its table, from 0. Every other part of a refused result is 0, and nothing
+ * is written. Where several numbers apply, it is the first in the table's order, and each comment below names them in it.
+ *
+ * A SUCCESS has number, sheet and row 0. It writes the words (or bytes) of its result from the output's start, and leaves
+ * the rest of the output as it was. An empty list is a success of count 0.
+ *
+ * What a caller owes: after each pointer the length of what it points to, in words or bytes. No pointer is null, also where
+ * the length is 0. An output overlaps no input, and nothing else writes either while the call runs. The library keeps no
+ * pointer and no state, so calls on different outputs may run at once.
+ */
+#ifndef TORMUKAI_H
+#define TORMUKAI_H
+
+#include <stddef.h>
+#include <stdint.h>
+
+#ifdef __cplusplus
+extern "C" {
+#endif
+
+/* The longest sheet, in words and in bytes of its file: 6 + 4 * 512 + 4 * 2048 words. */
+#define TORMUKAI_SHEET_WORDS 10246
+#define TORMUKAI_FILE_BYTES 40984
+
+/* Outputs that no result outgrows: a witness in bytes (512 nodes of two words), a list of persons or of folios, a list of
+ * edge rows. With them 25 does not occur. */
+#define TORMUKAI_WITNESS_BYTES 4096
+#define TORMUKAI_NODES 512
+#define TORMUKAI_EDGES 2048
+
+/* Answers. */
+#define TORMUKAI_UNDETERMINED 0
+#define TORMUKAI_GRANTED 1
+#define TORMUKAI_BANNED 2
+#define TORMUKAI_BOTH 3
+
+/* Joint rules. */
+#define TORMUKAI_GRANT_FIRST 1
+#define TORMUKAI_DENY_FIRST 2
+#define TORMUKAI_FIRST_APPLICABLE 3
+
+/* The kinds of a path. Any number but 0 asks for a ban. */
+#define TORMUKAI_GRANT 0
+#define TORMUKAI_BAN 1
+
+/* A refusal's number and place; 0 throughout where nothing is refused. */
+typedef struct TormukaiRefusal {
+    uint32_t number;
+    uint32_t sheet;
+    uint32_t row;
+} TormukaiRefusal;
+
+/* A refusal's number and place, or number 0 with what the question tells. What a question does not tell is 0. */
+typedef struct TormukaiAnswer {
+    uint32_t number;
+    uint32_t sheet;
+    uint32_t row;
+    uint32_t value;
+    uint32_t count;
+} TormukaiAnswer;
+
+/* A refusal's number and place, or number 0 with the joint sheet's length in words, its node rows and edge rows, and how
+ * many identities and relations were found in both inputs. */
+typedef struct TormukaiJoined {
+    uint32_t number;
+    uint32_t sheet;
+    uint32_t row;
+    uint32_t words;
+    uint32_t nodes;
+    uint32_t edges;
+    uint32_t sharednodes;
+    uint32_t sharededges;
+} TormukaiJoined;
+
+/* ---- Questions 1 to 3, on a file's bytes ---- */
+
+/* Question 1: may the person do the deed on the folio, at one office? Any variant of the deed serves.
+ * Answers: value 0 undetermined, 1 granted, 2 banned, 3 both. Writes: nothing.
+ * Refuses with: 33, 1 to 17, 20, 21, 22, 23. */
+TormukaiAnswer tormukai_answer(const uint8_t *file, size_t file_length, uint32_t office, uint32_t person, uint32_t deed,
+                               uint32_t folio);
+
+/* Question 2: the joint answer of all the sheet's offices under rule 1 grant-first, 2 deny-first or 3 first-applicable.
+ * Answers: value as in question 1; count the deciding office, 0 where undetermined. Writes: nothing.
+ * Refuses with: 33, 1 to 17, 27, 21, 22, 23. */
+TormukaiAnswer tormukai_joint_answer(const uint8_t *file, size_t file_length, uint32_t rule, uint32_t person, uint32_t deed,
+                                     uint32_t folio);
+
+/* Question 3: the witness of a grant (kind 0) or a ban (any other) at an office: the path with fewest nodes, and among those
+ * the first in dictionary order of number and variant.
+ * Answers: count the bytes written. Writes: the path, for each node its number and its variant, four bytes each, low byte
+ * first: eight bytes a node, the person first, then the categories, the deed, the folio.
+ * Refuses with: 33, 1 to 17, 20, 21, 22, 23, 26 (no such path), 25 (out_length is under the path's bytes). */
+TormukaiAnswer tormukai_witness(const uint8_t *file, size_t file_length, uint32_t office, uint32_t kind, uint32_t person,
+                                uint32_t deed, uint32_t folio, uint8_t *out, size_t out_length);
+
+/* The check of a file: is it a sheet?
+ * Answers: 0 throughout where it is. Writes: nothing. Refuses with: 33, 1 to 17. */
+TormukaiRefusal tormukai_check_file(const uint8_t *file, size_t file_length);
+
+/* ---- All the rest, on a sheet's words ---- */
+
+/* The check of a sheet.
+ * Answers: 0 throughout where it is one. Writes: nothing. Refuses with: 1 to 17. */
+TormukaiRefusal tormukai_check(const uint32_t *sheet, size_t sheet_length);
+
+/* Question 4: is the list some grant path (kind 0) or ban path (any other) for person, deed and folio at an office, shortest
+ * or not? Two words a node, as question 3 writes them.
+ * Answers: value 1 yes, 0 no. Writes: nothing. Refuses with: 1 to 17, 20; whatever else is wrong is a no. */
+TormukaiAnswer tormukai_is_path(const uint32_t *sheet, size_t sheet_length, uint32_t office, uint32_t kind, uint32_t person,
+                                uint32_t deed, uint32_t folio, const uint32_t *list, size_t list_length);
+
+/* Question 5: who is in a category at an office, directly or through containment?
+ * Answers: count the words written. Writes: the persons' numbers, rising. Refuses with: 1 to 17, 20, 24, 25. */
+TormukaiAnswer tormukai_persons_in_category(const uint32_t *sheet, size_t sheet_length, uint32_t office, uint32_t category,
+                                            uint32_t *out, size_t out_length);
+
+/* Question 6: who has a grant path for the deed and the folio at an office?
+ * Answers: count the words written. Writes: the persons' numbers, rising. Refuses with: 1 to 17, 20, 22, 23, 25. */
+TormukaiAnswer tormukai_persons_with_grant(const uint32_t *sheet, size_t sheet_length, uint32_t office, uint32_t deed,
+                                           uint32_t folio, uint32_t *out, size_t out_length);
+
+/* Question 7: to which folios has no person a grant path by any deed, at an office?
+ * Answers: count the words written. Writes: the folios' numbers, rising. Refuses with: 1 to 17, 20, 25. */
+TormukaiAnswer tormukai_folios_out_of_reach(const uint32_t *sheet, size_t sheet_length, uint32_t office, uint32_t *out,
+                                            size_t out_length);
+
+/* Question 8: the least triple that is both granted and banned at an office; persons are compared first, then deeds.
+ * Answers: count 3. Writes: person, deed, folio. Refuses with: 1 to 17, 20, 26 (there is none), 25. */
+TormukaiAnswer tormukai_least_triple(const uint32_t *sheet, size_t sheet_length, uint32_t office, uint32_t *out,
+                                     size_t out_length);
+
+/* Question 9: the least person and folio with a grant path for each of two different deeds, at an office; persons are
+ * compared first.
+ * Answers: count 2. Writes: person, folio.
+ * Refuses with: 1 to 17, 20, 22, 31 (the deeds are equal), 26 (there is none), 25. */
+TormukaiAnswer tormukai_least_holder(const uint32_t *sheet, size_t sheet_length, uint32_t office, uint32_t deed,
+                                     uint32_t other, uint32_t *out, size_t out_length);
+
+/* Question 10: which edge rows are redundant at an office?
+ * Answers: count the words written. Writes: their indices in the edge table, from 0, rising.
+ * Refuses with: 1 to 17, 20, 25. */
+TormukaiAnswer tormukai_redundant_edges(const uint32_t *sheet, size_t sheet_length, uint32_t office, uint32_t *out,
+                                        size_t out_length);
+
+/* Joins two one-office sheets into a two-office sheet, equal identities and relations once. The two inputs may be the same.
+ * Answers: the joint sheet's counts and how much is shared. Writes: the joint sheet.
+ * Refuses with: 1 to 17 of the first, then of the second; 28 of the first, then of the second; 29, 30, 25. */
+TormukaiJoined tormukai_join(const uint32_t *first, size_t first_length, const uint32_t *second, size_t second_length,
+                             uint32_t *out, size_t out_length);
+
+/* Takes an office out of a sheet: its rows alone, their ends renumbered, as a sheet of one office.
+ * Answers: count the words written. Writes: that sheet. Refuses with: 1 to 17, 20, 25. */
+TormukaiAnswer tormukai_take_out(const uint32_t *sheet, size_t sheet_length, uint32_t office, uint32_t *out,
+                                 size_t out_length);
+
+/* Does either of two sheets have the identity of this type (1 person, 2 category, 3 deed, 4 folio), number and variant?
+ * Answers: 0 throughout where one has. Writes: nothing.
+ * Refuses with: 1 to 17 of the first, then of the second; 32 (neither has it). */
+TormukaiRefusal tormukai_look_up_refusal(const uint32_t *first, size_t first_length, const uint32_t *second,
+                                         size_t second_length, uint32_t type, uint32_t number, uint32_t variant);
+
+#ifdef __cplusplus
+}
+#endif
+
+#endif
