@@ -1,12 +1,12 @@
 -- Demand 2 of the forms that the entries' statements take: what stands in front of the output is what was asked for, and 26 is told only where there is none.
 -- Assumes nothing.
 use Prim.Native.Nat.{ℕ, _<_}
-use mathlib.Core.Path.{_≡_, refl, sym, ap, subst}
+use mathlib.Core.Path.{_≡_, refl, sym, subst}
 use mathlib.Core.Bool.{Bool, true, false, true≢false}
-use mathlib.Core.List.{List, [], _∷_, _++_}
+use mathlib.Core.List.{List}
 use mathlib.Core.Logic.{_↔_}
 use native.Mathlib.Omega.{arith}
-use lib.ListN.{length, take, drop}
+use lib.ListN.{length, drop}
 use Rattle.tables.specs.Office.{View}
 use Rattle.sheet.specs.declared.Refusal.{Refusal}
 use Rattle.sheet.specs.Refusals.{refuse}
@@ -18,6 +18,7 @@ use Rattle.meaning.proofs.Offices.{grant-first, deny-first, first-applicable}
 use Rattle.ask.specs.declared.Answer.{Answer}
 use Rattle.ask.specs.Replies.{Replies, refused, answered, Shows, missing, short, written}
 use Rattle.tables.specs.Count.{numberOf}
+use Rattle.joint.proofs.Demand.{read-front}
 use Rattle.demands.specs.Demands.{front}
 
 -- ---- a reply
@@ -61,11 +62,6 @@ yes-is true v e = (λ x. refl, λ x. e)
 yes-is false v e = (λ x. absurd (omega (arith, x, e)), λ x. absurd (true≢false (sym x)))
 
 -- ---- a list shown
-
--- what was written in front is what is read there
-read-front : (xs ys : List ℕ) → take (length xs) (xs ++ ys) ≡ xs
-read-front [] ys = refl
-read-front (x ∷ xs) ys = ap (λ (l : List ℕ). x ∷ l) (read-front xs ys)
 
 module _ (refusal : Refusal) (R : List ℕ → Type 0) (out : List ℕ) where
   pub front-is : {a : Answer} {out′ : List ℕ} → Shows refusal R out a out′ → a .number ≡ 0 → R (front a out′)

@@ -18,7 +18,7 @@ use Rattle.sheet.specs.Named.{tablesOf, seenAt}
 use Rattle.meaning.specs.Paths.{Side, isPath}
 use Rattle.meaning.specs.Answers.{gives, told, other, jointly}
 use Rattle.meaning.specs.Forms.{fewer}
-use Rattle.meaning.specs.Questions.{WitnessIs, PersonsAre, HoldersAre, UnreachedAre, BothAt, LeastBothIs, HoldsBoth, LeastPairIs, RedundantAre}
+use Rattle.meaning.specs.Questions.{PersonsAre, HoldersAre, UnreachedAre, BothAt, LeastBothIs, HoldsBoth, LeastPairIs, RedundantAre}
 use Rattle.meaning.specs.Join.{officesOf, IsJoin, IsTaken}
 use Rattle.meaning.specs.Source.{Authorised, Prior, Yields, Applicable}
 use Rattle.ask.specs.declared.Question.{Question}
@@ -81,7 +81,7 @@ pub record Demand1 : Type 0 where
   pub question-1 : (s : List ℕ) (q : Question) {a : Answer} → AnswersAtOffice (afterSheet s) s q a → saidIn a ≡ afterSheet s (askFault s q)
   pub question-2 : (s : List ℕ) (q : Question) {a : Answer} → AnswersJointly (afterSheet s) s q a → saidIn a ≡ afterSheet s (jointFault s q)
   pub question-3 : (s : List ℕ) (q : Question) (out : List ℕ) {a : Answer} {out′ : List ℕ} → Witnesses s q out a out′
-      → KeepsTable (afterSheet s) (askFault s q) (WitnessIs (seenAt s (q .office)) (sideOf (q .kind)) (q .person) (q .deed) (q .folio)) out a out′
+      → KeepsTable (afterSheet s) (askFault s q) (WitnessOf s q) out a out′
   -- it refuses only for the sheet and office
   pub question-4 : (s : List ℕ) (q : Question) (list : List ℕ) {a : Answer} → TellsPath s q list a → saidIn a ≡ afterSheet s (badOffice (headerOf s) (q .office))
   pub question-5 : (s : List ℕ) (q : Question) (out : List ℕ) {a : Answer} {out′ : List ℕ} → ListsPersons s q out a out′

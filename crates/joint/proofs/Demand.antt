@@ -66,9 +66,9 @@ comes-back a b out (joined j z x n e l) q =
 -- ---- no two pairs
 
 -- what was written in front is what is read there
-front : (xs ys : List ℕ) → take (length xs) (xs ++ ys) ≡ xs
-front [] ys = refl
-front (x ∷ xs) ys = ap (λ (l : List ℕ). x ∷ l) (front xs ys)
+pub read-front : (xs ys : List ℕ) → take (length xs) (xs ++ ys) ≡ xs
+read-front [] ys = refl
+read-front (x ∷ xs) ys = ap (λ (l : List ℕ). x ∷ l) (read-front xs ys)
 
 -- so no two different pairs share a joint sheet
 pub no-two-pairs : (a b out a′ b′ lent : List ℕ) {r r′ : Joined} {out′ lent′ : List ℕ} → Joining a b out r out′ → r .number ≡ 0 → Joining a′ b′ lent r′ lent′ → r′ .number ≡ 0
@@ -78,7 +78,7 @@ no-two-pairs a b out a′ b′ lent (joined j k x n e l) z (refused h) z′ same
 no-two-pairs a b out a′ b′ lent (joined j k x n e l) z (joined j′ k′ x′ n′ e′ l′) z′ same =
     let o = joinable a b (length out) k in
     let p = joinable a′ b′ (length lent) k′ in
-    let q : j ≡ j′ = sym (front j (drop (length j) out)) ∙ same ∙ front j′ (drop (length j′) lent) in
+    let q : j ≡ j′ = sym (read-front j (drop (length j) out)) ∙ same ∙ read-front j′ (drop (length j′) lent) in
     pair-one a b a′ b′ j (o .0 .accepted) (o .1 .accepted) (p .0 .accepted) (p .1 .accepted) (o .0 .one ∙ sym (p .0 .one)) (o .1 .one ∙ sym (p .1 .one)) x (subst (IsJoin a′ b′) (sym q) x′)
 
 -- ---- joining what was taken out
