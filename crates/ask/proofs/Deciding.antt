@@ -1,6 +1,6 @@
 -- What the numbers of a walk back from the folio decide: whether there is a path, and the witness.
 -- Assumes nothing.
-use Prim.Native.Nat.{ℕ, zero, suc, _^_, _<_}
+use Prim.Native.Nat.{ℕ, suc, _^_, _<_}
 use native.Mathlib.Omega.{arith}
 use mathlib.Core.Path.{_≡_, refl, ap, subst, _∙_}
 use mathlib.Core.Bool.{Bool, true, false, not, true≢false, false≢true}
@@ -14,27 +14,25 @@ use Rattle.sheet.specs.declared.Header.{Header}
 use Rattle.sheet.specs.Rows.{headerOf, nodeAt, edgeTable}
 use Rattle.sheet.specs.Accepted.{WellFormed, Accepted}
 use Rattle.sheet.specs.Named.{nodeRow, seenAt}
+use Rattle.sheet.proofs.Forming.{words-of}
 use Rattle.sheet.proofs.Naming.{node-seen, ends-seen}
 use Rattle.paths.specs.Steps.{Layers}
-use Rattle.paths.proofs.Tests.{and-left, and-right, both}
+use Rattle.paths.proofs.Tests.{both}
 use Rattle.paths.proofs.Distances.{zero-or}
 use Rattle.paths.proofs.Trails.{listed, numbered}
-use Rattle.meaning.specs.Paths.{Side, grant, ban, rightKind, person, deed, folio, right, HasPath}
+use Rattle.meaning.specs.Paths.{Side, rightKind, person, deed, folio, right, HasPath}
 use Rattle.meaning.specs.Answers.{Says}
 use Rattle.meaning.proofs.Axioms.{a1-a2}
 use Rattle.walk.specs.declared.Walk.{Walk}
 use Rattle.walk.specs.Arcs.{Steps}
 use Rattle.walk.proofs.Walking.{turned-layers}
-use Rattle.ask.specs.declared.Question.{Question}
-use Rattle.ask.specs.Asked.{stands, known, sideOf}
+use Rattle.question.specs.declared.Question.{Question}
+use Rattle.question.proofs.Known.{found-class}
+use Rattle.question.specs.Asked.{stands, known, sideOf}
 use Rattle.ask.specs.Placed.{Placed}
 use Rattle.ask.proofs.Links.{walkFor}
 use Rattle.ask.proofs.Bridge.{trail-path, path-trail}
-use Rattle.ask.proofs.Known.{some-at}
-
--- the words alone: their own edge table and header
-pub words-of : (s t : List ℕ) (h : Header) → WellFormed s t h → Accepted s
-words-of s t h f = subst (λ (x : Header). WellFormed s (edgeTable s) x) (f .head) (subst (λ (x : List ℕ). WellFormed s x h) (f .table) f)
+use Rattle.tables.proofs.Counts.{some-at}
 
 module _ (s t : List ℕ) (h : Header) (f : WellFormed s t h) (k : ℕ) (side : Side) (q : Question) (rp rf : ℕ) (pl : Placed s q rp rf) (dist : List ℕ)
     (y : Layers (Steps s t (walkFor k side (q .deed)) true (h .edges)) (λ x. x ≡ rf) dist) where
@@ -89,12 +87,6 @@ module _ (s : List ℕ) (acc : Accepted s) (office : ℕ) where
       let n = ends-seen s acc office 5 3 d (a .variant) 4 f 0 (a .of) in
       (seen-known 1 p 0 (m .0), seen-known 3 d (a .variant) (n .0), seen-known 4 f 0 (n .1))
 
--- what a row that a search found is
-pub found-class : (s : List ℕ) (any : Bool) (office class number i : ℕ) → stands s any office class number i ≡ true → (nodeAt s i .class ≡ class) × (nodeAt s i .number ≡ number)
-unfolding stands
-found-class s any office class number i e =
-    (eqb-true _ class (and-left (eqb (nodeAt s i .class) class) _ e), eqb-true _ number (and-left (eqb (nodeAt s i .number) number) _ (and-right (eqb (nodeAt s i .class) class) _ e)))
-
 -- rows that were found for person, deed and folio place the question
 pub placed-by : (s : List ℕ) → Accepted s → (any : Bool) (office : ℕ) (q : Question) (rp rd rf : ℕ) → rp < headerOf s .nodes → rd < headerOf s .nodes → rf < headerOf s .nodes
     → stands s any office 1 (q .person) rp ≡ true → stands s any office 3 (q .deed) rd ≡ true → stands s any office 4 (q .folio) rf ≡ true → Placed s q rp rf
@@ -110,19 +102,6 @@ placed-by s acc any office q rp rd rf lp ld lf ep ed ef =
     let c1 = c .1 in
     record { person-in = lp; person-is = cc; folio-in = lf; folio-is = cc; deed-some = λ z. acc .nodes .fit rd ld .number (b .1 ∙ z) }
 
-pub side-ban : (kind : ℕ) → (kind ≡ 0 → ⊥) → sideOf kind ≡ ban
-unfolding sideOf
-side-ban zero n = absurd (n refl)
-side-ban (suc kind) n = refl
-
-pub side-grant : (kind : ℕ) → kind ≡ 0 → sideOf kind ≡ grant
-unfolding sideOf
-side-grant kind e = rw e
-
 -- the walk that the code makes
 pub walk-is : (w : Walk) (k mark kind deed : ℕ) → w ≡ record { mark = mark; right = rightKind (sideOf kind); deed = deed } → mark ≡ 2 ^ k → w ≡ walkFor k (sideOf kind) deed
 walk-is w k mark kind deed e m = e ∙ ap (λ (x : ℕ). record { mark = x; right = rightKind (sideOf kind); deed = deed }) m
-
--- as many nodes by the header that is handed on as by the words
-pub nodes-same : (s t : List ℕ) (h : Header) → WellFormed s t h → h .nodes ≡ headerOf s .nodes
-nodes-same s t h f = ap (λ (x : Header). x .nodes) (f .head)

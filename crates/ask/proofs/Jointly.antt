@@ -16,8 +16,8 @@ use Rattle.sheet.specs.Accepted.{WellFormed}
 use Rattle.sheet.specs.Named.{seenAt}
 use Rattle.sheet.proofs.Refusing.{taken, left}
 use Rattle.meaning.specs.Answers.{AnswerIs, Joint, lowest, jointly, JointIs}
-use Rattle.ask.specs.declared.Question.{Question}
-use Rattle.ask.specs.Asked.{FirstStanding, unknown, jointFault}
+use Rattle.question.specs.declared.Question.{Question}
+use Rattle.question.specs.Asked.{FirstStanding, unknown, jointFault}
 
 module _ (test : ℕ → Bool) (tell : ℕ → ℕ) where
   -- past an answer that does not pass, the search goes on

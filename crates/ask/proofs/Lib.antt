@@ -1,11 +1,9 @@
 pub mod Links
 pub mod Bridge
 pub mod Shortest
-pub mod Known
 pub mod Deciding
 pub mod Placing
-pub mod Telling
+pub mod Standing
 pub mod Showing
 pub mod Jointly
 pub mod Single
-pub mod Listing

@@ -1,12 +1,10 @@
 -- What the rows that a search found tell: who is unknown, and that an office which does not know one of them is undetermined.
 -- Assumes nothing.
 use Prim.Native.Nat.{ℕ, _<_, _≤_}
-use native.Mathlib.Omega.{arith}
-use mathlib.Core.Path.{_≡_, refl, sym, ap, subst, _∙_}
+use mathlib.Core.Path.{_≡_, refl, ap, subst}
 use mathlib.Core.Bool.{Bool, true, false, not}
 use mathlib.Core.List.{List}
 use lib.Dec.{ltb}
-use native.Mathlib.Decide.{decLt}
 use Rattle.sheet.specs.declared.Header.{Header}
 use Rattle.sheet.specs.Refusals.{_when_otherwise_}
 use Rattle.sheet.specs.Rows.{headerOf}
@@ -16,26 +14,19 @@ use Rattle.sheet.proofs.Refusing.{line-good}
 use Rattle.tables.specs.Office.{View}
 use Rattle.meaning.specs.Paths.{Side, grant, ban, HasPath}
 use Rattle.meaning.specs.Answers.{Says, answered, AnswerIs}
-use Rattle.ask.specs.declared.Question.{Question}
+use Rattle.question.specs.declared.Question.{Question}
+use Rattle.question.proofs.Known.{found-known}
 use Rattle.ask.specs.declared.Places.{Places}
-use Rattle.ask.specs.Asked.{known, unknown, someRow, sideOf, FirstStanding}
+use Rattle.question.specs.Asked.{known, unknown, sideOf}
 use Rattle.ask.specs.Placed.{Placed, FoundAll, unfound}
-use Rattle.ask.proofs.Known.{seek-known, seek-unknown}
-use Rattle.ask.proofs.Deciding.{path-known, placed-by, words-of, nodes-same}
+use Rattle.ask.proofs.Deciding.{path-known, placed-by}
+use Rattle.sheet.proofs.Forming.{words-of, nodes-same}
 use borrow.Author.Tests.{lt-ltb, le-ltb, ltb-true, not-false}
 
 -- the answer of the two sides
 pub two-sides : (g : View) (p d f r : ℕ) (a b : Bool) → Says a (HasPath g (sideOf 0) p d f) → Says b (HasPath g (sideOf 1) p d f) → r ≡ answered a b → AnswerIs g p d f r
 unfolding sideOf
 two-sides g p d f r a b x y e = record { grants = a; bans = b; granted = x; banned = y; number = e }
-
--- a row was found exactly if there is one
-pub found-known : (f : ℕ → Bool) (n r : ℕ) → FirstStanding f n r → ltb r n ≡ someRow f n
-found-known f n r x = go (decLt r n)
-  where
-    go : Dec (r < n) → ltb r n ≡ someRow f n
-    go (yes l) = lt-ltb r n l ∙ sym (seek-known f n r x l)
-    go (no l) = le-ltb r n (omega arith) ∙ sym (seek-unknown f n r x (omega arith))
 
 -- who is unknown by the rows found is unknown to the office
 pub unfound-unknown : (s : List ℕ) (any : Bool) (office n : ℕ) (q : Question) (p : Places) → n ≡ headerOf s .nodes → FoundAll s any office n q p → unfound n p ≡ unknown s any office q

@@ -22,13 +22,15 @@ use Rattle.meaning.specs.Questions.{WitnessIs}
 use Rattle.walk.specs.declared.Walk.{Walk}
 use Rattle.walk.specs.Arcs.{Steps, Ready}
 use Rattle.walk.proofs.Walking.{step-inside}
-use Rattle.ask.specs.declared.Question.{Question}
-use Rattle.ask.specs.Asked.{sideOf}
-use Rattle.ask.specs.Placed.{Placed, AtOffice}
+use Rattle.question.specs.declared.Question.{Question}
+use Rattle.question.specs.Asked.{sideOf}
+use Rattle.ask.specs.Placed.{Placed}
+use Rattle.question.specs.Checked.{AtOffice}
 use Rattle.ask.specs.Written.{nodeWords, RowsIn, Measured, PathRows}
 use Rattle.ask.proofs.Links.{walkFor}
 use Rattle.ask.proofs.Shortest.{witness, words-long}
-use Rattle.ask.proofs.Deciding.{words-of, back-layers, walk-is, path-reached}
+use Rattle.sheet.proofs.Forming.{words-of}
+use Rattle.ask.proofs.Deciding.{back-layers, walk-is, path-reached}
 
 -- the two words that stand next
 pub nodes-next : (s rows : List ℕ) (i : ℕ) → i < length rows → take 2 (drop (2 * i) (nodeWords s rows)) ≡ nodeAt s (getD rows i 0) .number ∷ nodeAt s (getD rows i 0) .variant ∷ []

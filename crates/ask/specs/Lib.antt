@@ -1,7 +1,4 @@
-pub mod Asked
-pub mod Written
 pub mod Placed
-pub mod Replies
+pub mod Written
 pub mod Passing
-pub mod Listed
 pub mod Promises

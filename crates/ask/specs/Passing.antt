@@ -4,8 +4,8 @@ use Prim.Native.Nat.{ℕ}
 use mathlib.Core.Bool.{Bool, _||_, cond}
 use lib.Dec.{eqb, ltb}
 use Rattle.meaning.specs.Answers.{Joint}
-use Rattle.ask.specs.declared.Answer.{Answer}
-use Rattle.ask.specs.Replies.{tells}
+use Rattle.question.specs.declared.Answer.{Answer}
+use Rattle.question.specs.Replies.{tells}
 
 -- an answer has what is wanted: 0 any but Undetermined, 1 Granted or Both, 2 Banned or Both
 abbrev pub passing : ℕ → ℕ → Bool

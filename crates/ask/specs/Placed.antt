@@ -1,18 +1,16 @@
--- What the inner functions of a question are handed.
+-- Where a question's person, deed and folio stand.
 -- Assumes nothing.
 use Prim.Native.Nat.{ℕ, suc, _^_, _<_}
 use mathlib.Core.Path.{_≡_}
 use mathlib.Core.Bool.{Bool, not}
 use mathlib.Core.List.{List}
-use Rattle.sheet.specs.declared.Header.{Header}
 use Rattle.sheet.specs.Refusals.{_below_, _when_otherwise_}
 use Rattle.sheet.specs.Rows.{headerOf, nodeKeyAt}
-use Rattle.sheet.specs.Accepted.{WellFormed}
 use Rattle.meaning.specs.Paths.{person, folio}
-use Rattle.ask.specs.declared.Question.{Question}
+use Rattle.question.specs.declared.Question.{Question}
 use Rattle.ask.specs.declared.Places.{Places}
 use Rattle.ask.specs.declared.Stand.{Stand}
-use Rattle.ask.specs.Asked.{stands, askFault, FirstStanding}
+use Rattle.question.specs.Asked.{stands, askFault, FirstStanding}
 
 -- the rows of the question's person and folio, and that its deed is one
 pub record Placed (s : List ℕ) (q : Question) (rp rf : ℕ) : Type 0 where
@@ -21,12 +19,6 @@ pub record Placed (s : List ℕ) (q : Question) (rp rf : ℕ) : Type 0 where
   pub folio-in : rf < headerOf s .nodes
   pub folio-is : nodeKeyAt s rf ≡ folio (q .folio)
   pub deed-some : q .deed ≡ 0 → ⊥
-
--- a sheet's words with their edge table and header, at office k + 1 with its mark
-pub record AtOffice (s t : List ℕ) (h : Header) (k mark : ℕ) : Type 0 where
-  pub formed : WellFormed s t h
-  pub mark-is : mark ≡ 2 ^ k
-  pub mark-some : 0 < mark
 
 -- where a search found the question's person, deed and folio
 pub record FoundAll (s : List ℕ) (any : Bool) (office n : ℕ) (q : Question) (p : Places) : Type 0 where

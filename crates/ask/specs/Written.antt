@@ -13,8 +13,8 @@ use Rattle.paths.specs.Steps.{Layers}
 use Rattle.walk.specs.Arcs.{Steps}
 use Rattle.meaning.specs.Paths.{rightKind}
 use Rattle.meaning.specs.Questions.{WitnessIs}
-use Rattle.ask.specs.declared.Question.{Question}
-use Rattle.ask.specs.Asked.{sideOf}
+use Rattle.question.specs.declared.Question.{Question}
+use Rattle.question.specs.Asked.{sideOf}
 
 -- two words for each row, number and variant
 unfoldable pub nodeWords : List ℕ → List ℕ → List ℕ

@@ -1,54 +1,30 @@
-// Questions 1 to 4: the answer at an office, the joint answer, the witness, and whether a list is a path.
+// Questions 1 to 3: the answer at an office, the joint answer, and the witness.
+use question::Answer;
+use question::Question;
 use sheet::Header;
-use sheet::Node;
-use sheet::Refusal;
 use walk::Walk;
 ghost use mathlib.Core.Path.{_≡_};
-ghost use mathlib.Core.Bool.{true, false, _&&_, _||_};
-ghost use Prim.Native.Nat.{ℕ, suc, _+_, _-_, _*_, _/_, _%_, _^_, _<_, _≤_};
+ghost use mathlib.Core.Bool.{true, false};
+ghost use Prim.Native.Nat.{ℕ, suc, _*_, _^_, _<_, _≤_};
 ghost use lib.ListN.{length, getD, take, drop};
 ghost use mathlib.Core.List.{_++_};
-ghost use Rattle.tables.specs.Count.{numberOf};
-ghost use Rattle.tables.specs.Key.{relation};
 ghost use Rattle.sheet.specs.Limits.{maxOffices, maxNodes};
-ghost use Rattle.sheet.specs.Refusals.{_is_, none};
-ghost use Rattle.sheet.specs.Rows.{headerOf, nodeKey};
+ghost use Rattle.sheet.specs.Refusals.{none};
+ghost use Rattle.sheet.specs.Rows.{headerOf};
 ghost use Rattle.sheet.specs.Accepted.{NodesFormed, WellFormed, Accepted};
 ghost use Rattle.sheet.specs.Named.{seenAt};
 ghost use Rattle.paths.specs.Steps.{Layers};
 ghost use Rattle.walk.specs.Arcs.{Steps};
-ghost use Rattle.meaning.specs.Paths.{rightKind, HasPath, member, step, carries, isPath};
+ghost use Rattle.meaning.specs.Paths.{rightKind, HasPath};
 ghost use Rattle.meaning.specs.Answers.{Says, answered, AnswerIs, lowest, undetermined, jointly, JointIs};
 ghost use Rattle.meaning.specs.Questions.{WitnessIs};
-ghost use Rattle.ask.specs.Asked.{FirstStanding, stands, badOffice, askFault, jointFault, plain, afterSheet, sideOf};
-ghost use Rattle.ask.specs.Placed.{Placed, AtOffice, FoundAll, unfound, StandsSo};
-ghost use Rattle.ask.specs.Replies.{refusedBy, tells, Replies, Shows};
-ghost use Rattle.ask.specs.Promises.{AnswersAtOffice, AnswersJointly, Witnesses, TellsPath};
-ghost use Rattle.ask.specs.Listed.{rowOf, hasSecond, framed, wayFrom, goesOn};
+ghost use Rattle.question.specs.Asked.{FirstStanding, askFault, jointFault, plain, afterSheet, sideOf};
+ghost use Rattle.question.specs.Replies.{Replies, Shows};
+ghost use Rattle.question.specs.Checked.{AtOffice};
+ghost use Rattle.ask.specs.Placed.{Placed, FoundAll, unfound, StandsSo};
+ghost use Rattle.ask.specs.Promises.{AnswersAtOffice, AnswersJointly, Witnesses};
 ghost use Rattle.ask.specs.Passing.{passing, telling};
 ghost use Rattle.ask.specs.Written.{nodeWords, RowsIn, Measured, PathRows};
-
-// What is asked. Each question looks at the numbers that it names: office or rule, kind, 0 for a grant and any other for a ban, and `other` where it names two deeds.
-pub struct Question {
-    pub office: u32,
-    pub rule: u32,
-    pub kind: u32,
-    pub person: u32,
-    pub category: u32,
-    pub deed: u32,
-    pub other: u32,
-    pub folio: u32,
-}
-
-// A refusal's number and place, or number 0 with what the question tells.
-#[repr(C)]
-pub struct Answer {
-    pub number: u32,
-    pub sheet: u32,
-    pub row: u32,
-    pub value: u32,
-    pub count: u32,
-}
 
 // The node rows of a question's person, deed and folio; the node count where there is none.
 pub struct Places {
@@ -72,39 +48,14 @@ const ROWS: usize = sheet::MAX_NODES as usize;
 // One number for each office.
 const OFFICES: usize = sheet::MAX_OFFICES as usize;
 
-// Whether a node row has the type and the number, and the mark, or any where `any` says so.
-fn is_standing(r: Node, any: bool, mark: u32, class: u32, number: u32) -> bool
-    requires { ⌜ 0 < mark ⌝ }
-    ensures { λ b. ⌜ b ≡ ((r .class is class) && ((r .number is number) && (any || ((r .offices / mark % 2) is 1)))) ⌝ }
-{
-    (r.class == class) & ((r.number == number) & (any | (r.offices / mark % 2 == 1)))
-}
-
-// The first node row of the type and the number that office k + 1 has, or any office where `any` says so; the node count where there is none.
-pub fn seek(sheet: &[u32], h: Header, any: bool, k: u32, mark: u32, class: u32, number: u32) -> u32
-    requires { ⌜ NodesFormed (now sheet) h × (mark ≡ 2 ^ k) × (0 < mark) ⌝ }
-    ensures { λ r. ⌜ FirstStanding (stands (now (sheet .entry)) any (suc k) class number) (h .nodes) r ⌝ }
-{
-    let n = h.nodes;
-    let mut i: u32 = 0;
-    while i < n {
-        let r = sheet::node_at(sheet, i as usize);
-        if is_standing(r, any, mark, class, number) {
-            return i;
-        }
-        i += 1;
-    }
-    n
-}
-
 // Where the question's person, deed and folio stand.
 fn places_of(sheet: &[u32], h: Header, any: bool, k: u32, mark: u32, q: Question) -> Places
     requires { ⌜ NodesFormed (now sheet) h × (mark ≡ 2 ^ k) × (0 < mark) ⌝ }
     ensures { λ r. ⌜ FoundAll (now (sheet .entry)) any (suc k) (h .nodes) q r ⌝ }
 {
-    let person = seek(sheet, h, any, k, mark, 1, q.person);
-    let deed = seek(sheet, h, any, k, mark, 3, q.deed);
-    let folio = seek(sheet, h, any, k, mark, 4, q.folio);
+    let person = question::seek(sheet, h, any, k, mark, 1, q.person);
+    let deed = question::seek(sheet, h, any, k, mark, 3, q.deed);
+    let folio = question::seek(sheet, h, any, k, mark, 4, q.folio);
     Places {
         person: person,
         deed: deed,
@@ -126,16 +77,9 @@ fn measured(sheet: &[u32], edges: &[u32], h: Header, w: Walk, to: u32) -> [u32; 
 fn walk_for(mark: u32, kind: u32, deed: u32) -> Walk
     ensures { λ r. ⌜ r ≡ record { mark = mark; right = rightKind (sideOf kind); deed = deed } ⌝ }
 {
-    if kind == 0 {
-        return Walk {
-            mark: mark,
-            right: 3,
-            deed: deed,
-        };
-    }
     Walk {
         mark: mark,
-        right: 4,
+        right: question::right_of(kind),
         deed: deed,
     }
 }
@@ -224,69 +168,12 @@ fn office_answer(sheet: &[u32], edges: &[u32], h: Header, k: u32, mark: u32, q: 
     answer_at(sheet, edges, h, k, mark, q, p.person, p.folio)
 }
 
-// The mark of office k + 1.
-pub fn mark_of(k: u32) -> u32
-    requires { ⌜ k < maxOffices ⌝ }
-    ensures { λ r. ⌜ (r ≡ 2 ^ k) × (0 < r) ⌝ }
-{
-    1u32 << k
-}
-
-// 20 where there is no such office.
-pub fn bad_office(h: Header, office: u32) -> u32
-    ensures { λ r. ⌜ r ≡ badOffice h office ⌝ }
-{
-    if (office < 1) | (h.offices < office) {
-        return 20;
-    }
-    0
-}
-
-// A refusal as an answer.
-pub fn refused(r: Refusal) -> Answer
-    ensures { λ a. ⌜ a ≡ refusedBy r ⌝ }
-{
-    Answer {
-        number: r.number,
-        sheet: r.sheet,
-        row: r.row,
-        value: 0,
-        count: 0,
-    }
-}
-
-// A refusal at place 0, 0 as an answer.
-pub fn refused_by(number: u32) -> Answer
-    ensures { λ a. ⌜ a ≡ refusedBy (record { number = number; sheet = 0; row = 0 }) ⌝ }
-{
-    Answer {
-        number: number,
-        sheet: 0,
-        row: 0,
-        value: 0,
-        count: 0,
-    }
-}
-
-// What a question tells, as an answer.
-pub fn told(value: u32, count: u32) -> Answer
-    ensures { λ a. ⌜ a ≡ tells value count ⌝ }
-{
-    Answer {
-        number: 0,
-        sheet: 0,
-        row: 0,
-        value: value,
-        count: count,
-    }
-}
-
 // How a question stands at an office that there is.
 fn stand_at(sheet: &[u32], h: Header, k: u32, q: Question) -> Stand
     requires { ⌜ Accepted (now sheet) × (h ≡ headerOf (now sheet)) × (q .office ≡ suc k) × (k < h .offices) ⌝ }
     ensures { λ r. ⌜ StandsSo (now (sheet .entry)) q r ⌝ }
 {
-    let mark = mark_of(k);
+    let mark = question::mark_of(k);
     let p = places_of(sheet, h, false, k, mark, q);
     Stand {
         number: unknown_of(h, p),
@@ -302,7 +189,7 @@ fn stand_of(sheet: &[u32], h: Header, q: Question) -> Stand
     requires { ⌜ Accepted (now sheet) × (h ≡ headerOf (now sheet)) ⌝ }
     ensures { λ r. ⌜ StandsSo (now (sheet .entry)) q r ⌝ }
 {
-    let n = bad_office(h, q.office);
+    let n = question::bad_office(h, q.office);
     if n != 0 {
         return Stand {
             number: n,
@@ -322,9 +209,9 @@ fn answer_checked(sheet: &[u32], edges: &[u32], h: Header, q: Question) -> Answe
 {
     let t = stand_of(sheet, h, q);
     if t.number != 0 {
-        return refused_by(t.number);
+        return question::refused_by(t.number);
     }
-    told(
+    question::told(
         answer_at(sheet, edges, h, t.office, t.mark, q, t.person, t.folio),
         0,
     )
@@ -336,11 +223,10 @@ pub fn answer_at_office(sheet: &[u32], q: Question) -> Answer
 {
     let r = verdict::check(sheet);
     if r.number != 0 {
-        return refused(r);
+        return question::refused(r);
     }
     let h = sheet::header_of(sheet);
-    let from = h.edgeoffset as usize;
-    answer_checked(sheet, &sheet[from..], h, q)
+    answer_checked(sheet, sheet::edge_table(sheet, h), h, q)
 }
 
 // The answers of the offices, in order.
@@ -352,7 +238,7 @@ fn answers_of(sheet: &[u32], edges: &[u32], h: Header, q: Question) -> [u32; OFF
     let n = h.offices;
     let mut k: u32 = 0;
     while k < n {
-        let mark = mark_of(k);
+        let mark = question::mark_of(k);
         let at = k as usize;
         rs[at] = office_answer(sheet, edges, h, k, mark, q);
         k += 1;
@@ -393,13 +279,13 @@ fn side_first(rs: [u32; OFFICES], n: u32, one: u32, two: u32) -> Answer
 {
     let first = first_passing(rs, n, one);
     if first < n {
-        return told(one, first + 1);
+        return question::told(one, first + 1);
     }
     let second = first_passing(rs, n, two);
     if second < n {
-        return told(two, second + 1);
+        return question::told(two, second + 1);
     }
-    told(0, 0)
+    question::told(0, 0)
 }
 
 // The answer of the lowest office that is not undetermined.
@@ -410,9 +296,9 @@ fn first_applicable(rs: [u32; OFFICES], n: u32) -> Answer
     let first = first_passing(rs, n, 0);
     if first < n {
         let at = first as usize;
-        return told(rs[at], first + 1);
+        return question::told(rs[at], first + 1);
     }
-    told(0, 0)
+    question::told(0, 0)
 }
 
 // The joint answer of n offices under a rule: 1 grant-first, 2 deny-first, any other first-applicable.
@@ -435,12 +321,12 @@ fn joint_checked(sheet: &[u32], edges: &[u32], h: Header, q: Question) -> Answer
     ensures { λ a. ⌜ Replies (plain (jointFault (now (sheet .entry)) q)) (λ value count. JointIs (seenAt (now (sheet .entry))) (headerOf (now (sheet .entry)) .offices) (q .rule) (q .person) (q .deed) (q .folio) (record { answer = value; office = count })) a ⌝ }
 {
     if (q.rule < 1) | (3 < q.rule) {
-        return refused_by(27);
+        return question::refused_by(27);
     }
     let p = places_of(sheet, h, true, 0, 1, q);
     let n = unknown_of(h, p);
     if n != 0 {
-        return refused_by(n);
+        return question::refused_by(n);
     }
     joint_of(answers_of(sheet, edges, h, q), h.offices, q.rule)
 }
@@ -451,11 +337,10 @@ pub fn joint_answer(sheet: &[u32], q: Question) -> Answer
 {
     let r = verdict::check(sheet);
     if r.number != 0 {
-        return refused(r);
+        return question::refused(r);
     }
     let h = sheet::header_of(sheet);
-    let from = h.edgeoffset as usize;
-    joint_checked(sheet, &sheet[from..], h, q)
+    joint_checked(sheet, sheet::edge_table(sheet, h), h, q)
 }
 
 // Writes the two words of each of the first n rows that are named, number and variant.
@@ -513,15 +398,15 @@ fn witness_at(
     let i = rp as usize;
     let n = d[i];
     if n == 0 {
-        return refused_by(26);
+        return question::refused_by(26);
     }
     let rows = path_rows(sheet, edges, h, k, mark, q, d, rp, rf);
     let m = n as usize;
     if out.len() < 2 * m {
-        return refused_by(25);
+        return question::refused_by(25);
     }
     write_nodes(sheet, h, rows, m, out);
-    told(0, 2 * n)
+    question::told(0, 2 * n)
 }
 
 // Question 3 on a sheet that was checked.
@@ -531,7 +416,7 @@ fn witness_checked(sheet: &[u32], edges: &[u32], h: Header, q: Question, out: &m
 {
     let t = stand_of(sheet, h, q);
     if t.number != 0 {
-        return refused_by(t.number);
+        return question::refused_by(t.number);
     }
     witness_at(sheet, edges, h, t.office, t.mark, q, t.person, t.folio, out)
 }
@@ -542,250 +427,8 @@ pub fn witness(sheet: &[u32], q: Question, out: &mut [u32]) -> Answer
 {
     let r = verdict::check(sheet);
     if r.number != 0 {
-        return refused(r);
+        return question::refused(r);
     }
     let h = sheet::header_of(sheet);
-    let from = h.edgeoffset as usize;
-    witness_checked(sheet, &sheet[from..], h, q, out)
-}
-
-// Whether an edge row has the kind and the mark and runs from one identity to the other.
-fn is_row_of(
-    sheet: &[u32],
-    edges: &[u32],
-    h: Header,
-    mark: u32,
-    kind: u32,
-    a: Node,
-    b: Node,
-    j: usize,
-) -> bool
-    requires { ⌜ WellFormed (now sheet) (now edges) h × (0 < mark) × (j < h .edges) ⌝ }
-    ensures { λ r. ⌜ r ≡ rowOf (now (sheet .entry)) (now (edges .entry)) mark kind a b j ⌝ }
-{
-    let e = sheet::edge_at(edges, h, j);
-    let from = sheet::node_at(sheet, e.from as usize);
-    let to = sheet::node_at(sheet, e.to as usize);
-    (e.kind == kind)
-        & ((e.offices / mark % 2 == 1) & (sheet::same_node(from, a) & sheet::same_node(to, b)))
-}
-
-// Whether office k + 1 has the relation of a kind between two identities.
-fn is_related(
-    sheet: &[u32],
-    edges: &[u32],
-    h: Header,
-    k: u32,
-    mark: u32,
-    kind: u32,
-    a: Node,
-    b: Node,
-) -> bool
-    requires { ⌜ AtOffice (now sheet) (now edges) h k mark ⌝ }
-    ensures { λ r. ⌜ r ≡ seenAt (now (sheet .entry)) (suc k) .edge (relation kind (nodeKey a) (nodeKey b)) ⌝ }
-{
-    let n = h.edges as usize;
-    let mut j: usize = 0;
-    while j < n {
-        if is_row_of(sheet, edges, h, mark, kind, a, b, j) {
-            return true;
-        }
-        j += 1;
-    }
-    false
-}
-
-// Whether the person is a member of the category.
-fn is_member(sheet: &[u32], edges: &[u32], h: Header, k: u32, mark: u32, p: u32, c: u32) -> bool
-    requires { ⌜ AtOffice (now sheet) (now edges) h k mark ⌝ }
-    ensures { λ r. ⌜ r ≡ member (seenAt (now (sheet .entry)) (suc k)) p c ⌝ }
-{
-    let a = sheet::named(1, p, 0);
-    let b = sheet::named(2, c, 0);
-    is_related(sheet, edges, h, k, mark, 1, a, b)
-}
-
-// Whether a side's paths lead from the one category to the other.
-fn is_step(
-    sheet: &[u32],
-    edges: &[u32],
-    h: Header,
-    k: u32,
-    mark: u32,
-    kind: u32,
-    c: u32,
-    d: u32,
-) -> bool
-    requires { ⌜ AtOffice (now sheet) (now edges) h k mark ⌝ }
-    ensures { λ r. ⌜ r ≡ step (seenAt (now (sheet .entry)) (suc k)) (sideOf kind) c d ⌝ }
-{
-    let a = sheet::named(2, c, 0);
-    let b = sheet::named(2, d, 0);
-    if kind == 0 {
-        return is_related(sheet, edges, h, k, mark, 2, a, b);
-    }
-    is_related(sheet, edges, h, k, mark, 2, b, a)
-}
-
-// Whether a category has the side's right on the question's deed in the variant, which applies to the folio.
-fn is_carried(
-    sheet: &[u32],
-    edges: &[u32],
-    h: Header,
-    k: u32,
-    mark: u32,
-    q: Question,
-    v: u32,
-    c: u32,
-) -> bool
-    requires { ⌜ AtOffice (now sheet) (now edges) h k mark ⌝ }
-    ensures { λ r. ⌜ r ≡ carries (seenAt (now (sheet .entry)) (suc k)) (sideOf (q .kind)) (q .deed) v (q .folio) c ⌝ }
-{
-    let w = walk_for(mark, q.kind, q.deed);
-    let a = sheet::named(2, c, 0);
-    let b = sheet::named(3, q.deed, v);
-    let t = sheet::named(4, q.folio, 0);
-    is_related(sheet, edges, h, k, mark, w.right, a, b)
-        & is_related(sheet, edges, h, k, mark, 5, b, t)
-}
-
-// Whether one of every second word, m of them from a place on, is c, or is not c where `same` is false.
-fn has_second(list: &[u32], from: usize, m: usize, c: u32, same: bool) -> bool
-    requires { ⌜ from + 2 * m ≤ length (now list) ⌝ }
-    ensures { λ r. ⌜ r ≡ hasSecond (now (list .entry)) c same from m ⌝ }
-{
-    let mut at = from;
-    let mut left = m;
-    while 0 < left {
-        if (c == list[at]) == same {
-            return true;
-        }
-        at += 2;
-        left -= 1;
-    }
-    false
-}
-
-// Whether the words before and behind the categories, m of them after the first, are the question's person, deed and folio.
-fn is_framed(list: &[u32], m: usize, q: Question) -> bool
-    requires { ⌜ length (now list) ≡ 8 + 2 * m ⌝ }
-    ensures { λ r. ⌜ r ≡ framed (now (list .entry)) m (q .person) (q .deed) (q .folio) ⌝ }
-{
-    (list[0] == q.person)
-        & ((list[1] == 0)
-            & ((list[4 + 2 * m] == q.deed)
-                & ((list[6 + 2 * m] == q.folio) & (list[7 + 2 * m] == 0))))
-}
-
-// Whether the category at a place leads to the next and is none of the m after it.
-fn is_onward(
-    sheet: &[u32],
-    edges: &[u32],
-    h: Header,
-    k: u32,
-    mark: u32,
-    kind: u32,
-    list: &[u32],
-    at: usize,
-    m: usize,
-) -> bool
-    requires { ⌜ AtOffice (now sheet) (now edges) h k mark × (0 < m) × (at + 2 + 2 * m ≤ length (now list)) ⌝ }
-    ensures { λ r. ⌜ r ≡ goesOn (seenAt (now (sheet .entry)) (suc k)) (sideOf kind) (now (list .entry)) at m ⌝ }
-{
-    let c = list[at];
-    let d = list[at + 2];
-    if has_second(list, at + 2, m, c, true) {
-        return false;
-    }
-    is_step(sheet, edges, h, k, mark, kind, c, d)
-}
-
-// Whether the first category leads by the m after it, all distinct, to one with the right. The way is tried from its end, so that a list of any length costs no more turns than there are categories.
-fn is_way(
-    sheet: &[u32],
-    edges: &[u32],
-    h: Header,
-    k: u32,
-    mark: u32,
-    q: Question,
-    list: &[u32],
-    m: usize,
-) -> bool
-    requires { ⌜ AtOffice (now sheet) (now edges) h k mark × (length (now list) ≡ 8 + 2 * m) ⌝ }
-    ensures { λ r. ⌜ r ≡ wayFrom (seenAt (now (sheet .entry)) (suc k)) (sideOf (q .kind)) (q .deed) (getD (now (list .entry)) (5 + 2 * m) 0) (q .folio) (now (list .entry)) 2 m ⌝ }
-{
-    let v = list[5 + 2 * m];
-    let c = list[2 + 2 * m];
-    if !is_carried(sheet, edges, h, k, mark, q, v, c) {
-        return false;
-    }
-    let mut n: usize = 0;
-    while n < m {
-        let at = 2 * (m - n);
-        n += 1;
-        if !is_onward(sheet, edges, h, k, mark, q.kind, list, at, n) {
-            return false;
-        }
-    }
-    true
-}
-
-// Whether the words are some path of office k + 1.
-fn is_path_at(
-    sheet: &[u32],
-    edges: &[u32],
-    h: Header,
-    k: u32,
-    mark: u32,
-    q: Question,
-    list: &[u32],
-) -> bool
-    requires { ⌜ AtOffice (now sheet) (now edges) h k mark ⌝ }
-    ensures { λ r. ⌜ r ≡ isPath (seenAt (now (sheet .entry)) (suc k)) (sideOf (q .kind)) (q .person) (q .deed) (q .folio) (now (list .entry)) ⌝ }
-{
-    let n = list.len();
-    if (n < 8) | (n % 2 == 1) {
-        return false;
-    }
-    let m = (n - 8) / 2;
-    if !is_framed(list, m, q) {
-        return false;
-    }
-    if has_second(list, 3, m + 1, 0, false) {
-        return false;
-    }
-    if !is_member(sheet, edges, h, k, mark, q.person, list[2]) {
-        return false;
-    }
-    is_way(sheet, edges, h, k, mark, q, list, m)
-}
-
-// Question 4 on a sheet that was checked.
-fn is_path_checked(sheet: &[u32], edges: &[u32], h: Header, q: Question, list: &[u32]) -> Answer
-    requires { ⌜ WellFormed (now sheet) (now edges) h ⌝ }
-    ensures { λ a. ⌜ Replies (plain (badOffice (headerOf (now (sheet .entry))) (q .office))) (λ value count. (value ≡ numberOf (isPath (seenAt (now (sheet .entry)) (q .office)) (sideOf (q .kind)) (q .person) (q .deed) (q .folio) (now (list .entry)))) × (count ≡ 0)) a ⌝ }
-{
-    let n = bad_office(h, q.office);
-    if n != 0 {
-        return refused_by(n);
-    }
-    let k = q.office - 1;
-    let mark = mark_of(k);
-    if is_path_at(sheet, edges, h, k, mark, q, list) {
-        return told(1, 0);
-    }
-    told(0, 0)
-}
-
-// Question 4, whether a list of words is some grant or ban path: 1 yes, 0 no, in `value`.
-pub fn is_path(sheet: &[u32], q: Question, list: &[u32]) -> Answer
-    ensures { λ a. ⌜ TellsPath (now (sheet .entry)) q (now (list .entry)) a ⌝ }
-{
-    let r = verdict::check(sheet);
-    if r.number != 0 {
-        return refused(r);
-    }
-    let h = sheet::header_of(sheet);
-    let from = h.edgeoffset as usize;
-    is_path_checked(sheet, &sheet[from..], h, q, list)
+    witness_checked(sheet, sheet::edge_table(sheet, h), h, q, out)
 }

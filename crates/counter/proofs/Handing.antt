@@ -12,9 +12,9 @@ use Rattle.sheet.specs.Refusals.{none, refuse, _then_, written, Writes}
 use Rattle.sheet.proofs.Writing.{short-lacks, writes-room}
 use Rattle.files.specs.Bytes.{bytesOf}
 use Rattle.files.proofs.Words.{bytes-long}
-use Rattle.ask.specs.declared.Answer.{Answer}
-use Rattle.ask.specs.Asked.{plain}
-use Rattle.ask.specs.Replies.{refusedBy, tells, Shows}
+use Rattle.question.specs.declared.Answer.{Answer}
+use Rattle.question.specs.Asked.{plain}
+use Rattle.question.specs.Replies.{refusedBy, tells, Shows}
 use Rattle.counter.specs.Filed.{InBytes, in-bytes}
 
 -- bytes written, or 25

@@ -24,8 +24,9 @@ use Rattle.paths.proofs.Ways.{first-step}
 use Rattle.meaning.specs.Paths.{Side, grant, ban, category, member, step, carries, path, isPath}
 use Rattle.meaning.proofs.Spelling.{spelt, spell-long}
 use Rattle.meaning.specs.Questions.{WitnessIs}
-use Rattle.ask.specs.Asked.{someRow, plain, afterSheet}
-use Rattle.ask.proofs.Known.{some-at}
+use Rattle.tables.specs.Count.{someRow}
+use Rattle.question.specs.Asked.{plain, afterSheet}
+use Rattle.tables.proofs.Counts.{some-at}
 
 -- how many numbers of a list pass
 count : (ℕ → Bool) → List ℕ → ℕ

@@ -14,9 +14,9 @@ use Rattle.sheet.proofs.Refusing.{refuse-some-is, refuse-none, refuse-none-is, 
 use Rattle.sheet.proofs.Writing.{writes-room}
 use Rattle.files.specs.Bytes.{wordsOf, bytesFault, bytesVerdict}
 use Rattle.files.proofs.Words.{words-long, bytes-good}
-use Rattle.ask.specs.declared.Answer.{Answer}
-use Rattle.ask.specs.Asked.{plain, afterSheet}
-use Rattle.ask.specs.Replies.{refusedBy, Replies, Shows}
+use Rattle.question.specs.declared.Answer.{Answer}
+use Rattle.question.specs.Asked.{plain, afterSheet}
+use Rattle.question.specs.Replies.{refusedBy, Replies, Shows}
 use Rattle.counter.specs.Filed.{WasRead, afterFile}
 
 -- ---- reading

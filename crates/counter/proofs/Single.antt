@@ -8,9 +8,9 @@ use Rattle.meaning.specs.Paths.{Side}
 use Rattle.meaning.specs.Questions.{WitnessIs}
 use Rattle.meaning.proofs.Unique.{witness-one}
 use Rattle.files.specs.Bytes.{bytesOf}
-use Rattle.ask.specs.declared.Answer.{Answer}
-use Rattle.ask.specs.Replies.{tells, Replies, Shows}
-use Rattle.ask.proofs.Single.{replies-one, shows-one}
+use Rattle.question.specs.declared.Answer.{Answer}
+use Rattle.question.specs.Replies.{tells, Replies, Shows}
+use Rattle.question.proofs.Single.{replies-one, shows-one}
 use Rattle.counter.specs.Filed.{InBytes, in-bytes, afterFile}
 
 -- questions 1 and 2: `ask`'s `answer-single` and `joint-single` are such a `one`

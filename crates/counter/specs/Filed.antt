@@ -7,8 +7,8 @@ use lib.ListN.{length, take}
 use Rattle.sheet.specs.declared.Refusal.{Refusal}
 use Rattle.sheet.specs.Refusals.{none, refuse, _then_}
 use Rattle.files.specs.Bytes.{wordsOf, bytesOf, bytesFault, bytesVerdict}
-use Rattle.ask.specs.declared.Question.{Question}
-use Rattle.ask.specs.Asked.{plain}
+use Rattle.question.specs.declared.Question.{Question}
+use Rattle.question.specs.Asked.{plain}
 
 -- a question that names a person, a deed and a folio, at an office or under a rule
 abbrev pub asking : ℕ → ℕ → ℕ → ℕ → ℕ → ℕ → Question

@@ -1,7 +1,7 @@
 // The counter: what a program in C or Rust calls. Questions 1 to 3 and the check are asked of a file's bytes, and every other function of a sheet's words.
-use ask::Answer;
-use ask::Question;
 use join::Joined;
+use question::Answer;
+use question::Question;
 use sheet::MAX_WORDS;
 use sheet::Refusal;
 ghost use mathlib.Core.Path.{_≡_};
@@ -10,12 +10,13 @@ ghost use Rattle.tables.specs.Key.{identity};
 ghost use Rattle.sheet.specs.Limits.{maxWords};
 ghost use Rattle.sheet.specs.Verdict.{verdict};
 ghost use Rattle.files.specs.Bytes.{wordsOf, bytesVerdict};
-ghost use Rattle.ask.specs.Asked.{askFault, afterSheet};
-ghost use Rattle.ask.specs.Replies.{Shows};
+ghost use Rattle.question.specs.Asked.{askFault, afterSheet};
+ghost use Rattle.question.specs.Replies.{Shows};
 ghost use Rattle.lookup.specs.Looked.{lookFault};
 ghost use Rattle.join.specs.Joined.{Joining};
 ghost use Rattle.takeout.specs.Promises.{TakesOut};
-ghost use Rattle.ask.specs.Promises.{AnswersAtOffice, AnswersJointly, WitnessOf, TellsPath};
+ghost use Rattle.ask.specs.Promises.{AnswersAtOffice, AnswersJointly, WitnessOf};
+ghost use Rattle.claim.specs.Promises.{TellsPath};
 ghost use Rattle.lists.specs.Promises.{ListsPersons, ListsHolders, ListsUnreached, ShowsLeastBoth, ShowsLeastPair, ListsRedundant};
 ghost use Rattle.counter.specs.Filed.{asking, seeking, WasRead, afterFile, InBytes};
 
@@ -52,7 +53,7 @@ pub extern "C" fn tormukai_answer(
     let mut words = [0u32; MAX_WORDS];
     let r = read(file, &mut words);
     if r.number != 0 {
-        return ask::refused(r);
+        return question::refused(r);
     }
     let n = file.len() / 4;
     let q = Question {
@@ -82,7 +83,7 @@ pub extern "C" fn tormukai_joint_answer(
     let mut words = [0u32; MAX_WORDS];
     let r = read(file, &mut words);
     if r.number != 0 {
-        return ask::refused(r);
+        return question::refused(r);
     }
     let n = file.len() / 4;
     let q = Question {
@@ -110,9 +111,9 @@ fn witness_bytes(sheet: &[u32], q: Question, out: &mut [u8]) -> Answer
     let n = a.count as usize;
     let r = files::encode(&path[0..n], out);
     if r.number != 0 {
-        return ask::refused(r);
+        return question::refused(r);
     }
-    ask::told(0, 4 * a.count)
+    question::told(0, 4 * a.count)
 }
 
 // Question 3 of a file's bytes, the witness of a grant (kind 0) or a ban (any other), in bytes, low byte first; how many in `count`.
@@ -131,7 +132,7 @@ pub extern "C" fn tormukai_witness(
     let mut words = [0u32; MAX_WORDS];
     let r = read(file, &mut words);
     if r.number != 0 {
-        return ask::refused(r);
+        return question::refused(r);
     }
     let n = file.len() / 4;
     let q = Question {
@@ -186,7 +187,7 @@ pub extern "C" fn tormukai_is_path(
         other: 0,
         folio: folio,
     };
-    ask::is_path(sheet, q, list)
+    claim::is_path(sheet, q, list)
 }
 
 // Question 5, the numbers of the persons in a category, rising; how many in `count`.

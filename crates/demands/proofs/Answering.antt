@@ -15,8 +15,8 @@ use Rattle.meaning.specs.Answers.{Says, answered as number-of, AnswerIs, gives,
 use Rattle.meaning.specs.Source.{Authorised, Prior, Yields, Applicable}
 use Rattle.meaning.proofs.Axioms.{a1-a2, says}
 use Rattle.meaning.proofs.Offices.{grant-first, deny-first, first-applicable}
-use Rattle.ask.specs.declared.Answer.{Answer}
-use Rattle.ask.specs.Replies.{Replies, refused, answered, Shows, missing, short, written}
+use Rattle.question.specs.declared.Answer.{Answer}
+use Rattle.question.specs.Replies.{Replies, refused, answered, Shows, missing, short, written}
 use Rattle.tables.specs.Count.{numberOf}
 use Rattle.joint.proofs.Demand.{read-front}
 use Rattle.demands.specs.Demands.{front}

@@ -22,9 +22,9 @@ use Rattle.meaning.specs.Join.{officesOf, IsJoin}
 use Rattle.meaning.proofs.Joins.{taken-one}
 use Rattle.meaning.proofs.Sites.{union-nodes, union-edges}
 use Rattle.meaning.proofs.Unique.{witness-one, persons-one, holders-one, unreached-one, least-both-one, least-pair-one, redundant-one}
-use Rattle.ask.specs.declared.Question.{Question}
-use Rattle.ask.specs.declared.Answer.{Answer}
-use Rattle.ask.specs.Asked.{sideOf}
+use Rattle.question.specs.declared.Question.{Question}
+use Rattle.question.specs.declared.Answer.{Answer}
+use Rattle.question.specs.Asked.{sideOf}
 use Rattle.lookup.proofs.Looking.{both-accepted}
 use Rattle.ask.specs.Promises.{WitnessOf}
 use Rattle.opened.specs.declared.Which.{Which}

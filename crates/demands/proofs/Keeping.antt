@@ -9,14 +9,14 @@ use Rattle.sheet.specs.declared.Refusal.{Refusal}
 use Rattle.sheet.specs.Refusals.{none, refuse, _then_}
 use Rattle.sheet.specs.Verdict.{verdict}
 use Rattle.sheet.proofs.Refusing.{refuse-none, then-good}
-use Rattle.ask.specs.declared.Answer.{Answer}
-use Rattle.ask.specs.Asked.{plain, afterSheet}
-use Rattle.ask.specs.Replies.{Replies, refused, answered, Shows, missing, short, written}
-use Rattle.files.specs.Bytes.{wordsOf, bytesVerdict}
+use Rattle.question.specs.declared.Answer.{Answer}
+use Rattle.question.specs.Asked.{plain, afterSheet}
+use Rattle.question.specs.Replies.{Replies, refused, answered, Shows, missing, short, written}
+use Rattle.files.specs.Bytes.{wordsOf, bytesOf, bytesVerdict}
 use Rattle.counter.specs.Filed.{afterFile}
 use Rattle.join.specs.declared.Joined.{Joined}
-use Rattle.join.specs.Joined.{tooMuch, unionNodes, unionEdges, sheetsFault, unionFault, joinFault, Joining, joined, refused as not-joined}
-use Rattle.joining.specs.JoinedFiles.{filesFault, JoinsFiles, joined as filed, refused as not-filed}
+use Rattle.join.specs.Joined.{tooMuch, unionNodes, unionEdges, sheetsFault, unionFault, joinFault, JoinsAs, Joining, joined, refused as not-joined}
+use Rattle.joining.specs.JoinedFiles.{filesFault, JoinsFiles}
 use Rattle.demands.specs.Demands.{saidIn, saidOf, Judged, by-the-table, no-such, too-short, not-refused, Keeps}
 
 -- what refuses by 0 is no refusal
@@ -53,19 +53,20 @@ sheet-says s k P = replies-say (afterSheet s k) P (after-by-0 s k)
 pub file-says : (f : List ℕ) (k : ℕ) (P : ℕ → ℕ → Type 0) {a : Answer} → Replies (afterFile f k) P a → saidIn a ≡ afterFile f k
 file-says f k P = replies-say (afterFile f k) P (file-by-0 f k)
 
--- a join
-pub joins-keep : (a b out : List ℕ) {r : Joined} {out′ : List ℕ} → Joining a b out r out′ → Keeps (λ x. x ≡ joinFault a b (length out)) (saidOf r) out out′
-joins-keep a b out (not-joined h) = record { first = refl; no-other = λ r e. e; untouched = λ z. refl }
-joins-keep a b out (joined j z i n e l) = record { first = sym (join-by-0 a b (length out) z); no-other = λ r x. x ∙ join-by-0 a b (length out) z; untouched = λ x. absurd (x refl) }
-
--- a join of files
 files-by-0 : (f g : List ℕ) (room : ℕ) → filesFault f g room .number ≡ 0 → filesFault f g room ≡ none
 unfolding filesFault
 files-by-0 f g room z = then-by-0 (bytesVerdict 1 f) _ (then-by-0 (bytesVerdict 2 g) _ (join-by-0 (wordsOf f) (wordsOf g) (room / 4))) z
 
+-- a join, into words or into bytes
+joined-keep : (spelled : List ℕ → List ℕ) (refusal : Refusal) → (refusal .number ≡ 0 → refusal ≡ none) → (a b out : List ℕ) {r : Joined} {out′ : List ℕ} → JoinsAs spelled refusal a b out r out′ → Keeps (λ x. x ≡ refusal) (saidOf r) out out′
+joined-keep spelled refusal by-0 a b out (not-joined h) = record { first = refl; no-other = λ r e. e; untouched = λ z. refl }
+joined-keep spelled refusal by-0 a b out (joined j z i n e l) = record { first = sym (by-0 z); no-other = λ r x. x ∙ by-0 z; untouched = λ x. absurd (x refl) }
+
+pub joins-keep : (a b out : List ℕ) {r : Joined} {out′ : List ℕ} → Joining a b out r out′ → Keeps (λ x. x ≡ joinFault a b (length out)) (saidOf r) out out′
+joins-keep a b out = joined-keep (λ j. j) _ (join-by-0 a b (length out)) a b out
+
 pub files-keep : (f g out : List ℕ) {r : Joined} {out′ : List ℕ} → JoinsFiles f g out r out′ → Keeps (λ x. x ≡ filesFault f g (length out)) (saidOf r) out out′
-files-keep f g out (not-filed h) = record { first = refl; no-other = λ r e. e; untouched = λ z. refl }
-files-keep f g out (filed j z i n e l) = record { first = sym (files-by-0 f g (length out) z); no-other = λ r x. x ∙ files-by-0 f g (length out) z; untouched = λ x. absurd (x refl) }
+files-keep f g out = joined-keep bytesOf _ (files-by-0 f g (length out)) (wordsOf f) (wordsOf g) out
 
 -- a list shown
 module _ (refusal : Refusal) (R : List ℕ → Type 0) (one : (xs ys : List ℕ) → R xs → R ys → xs ≡ ys) (out : List ℕ) where

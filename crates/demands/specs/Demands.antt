@@ -21,11 +21,12 @@ use Rattle.meaning.specs.Forms.{fewer}
 use Rattle.meaning.specs.Questions.{PersonsAre, HoldersAre, UnreachedAre, BothAt, LeastBothIs, HoldsBoth, LeastPairIs, RedundantAre}
 use Rattle.meaning.specs.Join.{officesOf, IsJoin, IsTaken}
 use Rattle.meaning.specs.Source.{Authorised, Prior, Yields, Applicable}
-use Rattle.ask.specs.declared.Question.{Question}
-use Rattle.ask.specs.declared.Answer.{Answer}
-use Rattle.ask.specs.Asked.{badOffice, askFault, jointFault, plain, afterSheet, sideOf}
-use Rattle.ask.specs.Replies.{tells, Shows}
-use Rattle.ask.specs.Promises.{AnswersAtOffice, AnswersJointly, WitnessOf, Witnesses, TellsPath, atFirst}
+use Rattle.question.specs.declared.Question.{Question}
+use Rattle.question.specs.declared.Answer.{Answer}
+use Rattle.question.specs.Asked.{badOffice, askFault, jointFault, plain, afterSheet, sideOf}
+use Rattle.question.specs.Replies.{tells, Shows}
+use Rattle.ask.specs.Promises.{AnswersAtOffice, AnswersJointly, WitnessOf, Witnesses, atFirst}
+use Rattle.claim.specs.Promises.{TellsPath}
 use Rattle.lists.specs.Sought.{unknownCategory, unknownRight, badPair}
 use Rattle.lists.specs.Promises.{ListsPersons, ListsHolders, ListsUnreached, ShowsLeastBoth, ShowsLeastPair, ListsRedundant}
 use Rattle.opened.specs.declared.Which.{Which}

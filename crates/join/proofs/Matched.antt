@@ -4,7 +4,7 @@ use Prim.Native.Nat.{ℕ, _^_, _<_}
 use mathlib.Core.Path.{_≡_, sym, ap, ap₂, _∙_}
 use mathlib.Core.List.{List, [], _∷_}
 use native.Mathlib.Omega.{arith}
-use Rattle.tables.specs.Count.{howMany}
+use Rattle.tables.specs.Count.{howMany, has}
 use Rattle.tables.specs.Key.{Key, sameKey, relation}
 use Rattle.tables.proofs.Counts.{many-same}
 use Rattle.tables.proofs.Keys.{same-eq, eq-same}
@@ -15,7 +15,7 @@ use Rattle.sheet.specs.Named.{edgeRow}
 use Rattle.carry.proofs.Carrying.{both-ways}
 use Rattle.merge.specs.declared.Places.{Places}
 use Rattle.meaning.specs.Join.{officesOf}
-use Rattle.merge.specs.Merged.{shared, place, has, Walked}
+use Rattle.merge.specs.Merged.{shared, place, Walked}
 use Rattle.merge.specs.Lent.{through, rowsIn, keyVia, marksIn, tableVia, Mergeable, SideBySide, PlacesAre}
 use Rattle.merge.proofs.Merging.{has-same, places-rise, place-same}
 use Rattle.merge.proofs.Marking.{Union, unites}

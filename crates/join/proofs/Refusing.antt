@@ -17,7 +17,7 @@ use Rattle.sheet.specs.Verdict.{verdict}
 use Rattle.sheet.proofs.Accepting.{accepted}
 use Rattle.sheet.proofs.Refusing.{taken, left, not-eqb-true, not-eqb-false, line-good, refuse-good, then-good, refuse-some-is, refuse-none-is, then-some-is, then-none-is}
 use Rattle.join.specs.declared.Joined.{Joined}
-use Rattle.join.specs.Joined.{unionNodes, unionEdges, notOne, tooMuch, sheetsFault, unionFault, joinFault, refusedBy, Joins, refused}
+use Rattle.join.specs.Joined.{unionNodes, unionEdges, notOne, tooMuch, sheetsFault, unionFault, joinFault, refusedBy, JoinsAs, Joins, refused}
 use Rattle.join.specs.Laid.{Joinable}
 
 -- ---- 28
@@ -136,9 +136,9 @@ union-passes a b n e room q x y = ap (λ (r : Refusal). r .number) (sym (refuse-
 
 -- ---- the whole
 
-pub joins-refused : (refusal x : Refusal) (a b out : List ℕ) (j : Joined) → x ≡ refusal → (x .number ≡ 0 → ⊥) → j ≡ refusedBy x → Joins refusal a b out j out
-joins-refused refusal x a b out j e z q =
-    subst (λ (y : Joined). Joins refusal a b out y out) (sym (q ∙ ap refusedBy e)) (refused (λ w. z (ap (λ (y : Refusal). y .number) e ∙ w)))
+pub joins-refused : (spelled : List ℕ → List ℕ) (refusal x : Refusal) (a b out : List ℕ) (j : Joined) → x ≡ refusal → (x .number ≡ 0 → ⊥) → j ≡ refusedBy x → JoinsAs spelled refusal a b out j out
+joins-refused spelled refusal x a b out j e z q =
+    subst (λ (y : Joined). JoinsAs spelled refusal a b out y out) (sym (q ∙ ap refusedBy e)) (refused (λ w. z (ap (λ (y : Refusal). y .number) e ∙ w)))
 
 module _ (a b : List ℕ) (room : ℕ) (r : Refusal) (x : r ≡ sheetsFault a b) where
   pub fault-first : (r .number ≡ 0 → ⊥) → r ≡ joinFault a b room

@@ -76,13 +76,17 @@ tells a b j = record {
   sharededges = sharedEdges a b;
 }
 
--- joining a and b: refused, and nothing is written; or the join stands in front of the output, its rows and the shared ones being as many as the sheets have
-pub data Joins (refusal : Refusal) (a b out : List ℕ) : Joined → List ℕ → Type 0 where
-  refused : (refusal .number ≡ 0 → ⊥) → Joins refusal a b out (refusedBy refusal) out
+-- joining a and b, the joint sheet being spelled so in the output: refused, and nothing is written; or the join stands in front, its rows and the shared ones being as many as the sheets have
+pub data JoinsAs (spelled : List ℕ → List ℕ) (refusal : Refusal) (a b out : List ℕ) : Joined → List ℕ → Type 0 where
+  refused : (refusal .number ≡ 0 → ⊥) → JoinsAs spelled refusal a b out (refusedBy refusal) out
   joined : (j : List ℕ) → refusal .number ≡ 0 → IsJoin a b j
       → headerOf j .nodes + sharedNodes a b ≡ headerOf a .nodes + headerOf b .nodes
       → headerOf j .edges + sharedEdges a b ≡ headerOf a .edges + headerOf b .edges
-      → length j ≤ length out → Joins refusal a b out (tells a b j) (j ++ drop (length j) out)
+      → length (spelled j) ≤ length out → JoinsAs spelled refusal a b out (tells a b j) (spelled j ++ drop (length (spelled j)) out)
+
+-- .. as its words are
+abbrev pub Joins : Refusal → List ℕ → List ℕ → List ℕ → Joined → List ℕ → Type 0
+Joins = JoinsAs (λ j. j)
 
 -- what joining promises: of the two sheets, the lent output before, the result, and the output after
 abbrev pub Joining : List ℕ → List ℕ → List ℕ → Joined → List ℕ → Type 0

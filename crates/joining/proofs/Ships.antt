@@ -14,14 +14,14 @@ use Rattle.sheet.proofs.Refusing.{then-none}
 use Rattle.files.specs.Bytes.{wordsOf, bytesOf, bytesFault, bytesVerdict}
 use Rattle.meaning.specs.Ships.{sheetA, sheetB, sheetJ}
 use Rattle.meaning.proofs.Ships.{sister-ships}
-use Rattle.tables.specs.Count.{howMany}
-use Rattle.merge.specs.Merged.{has, shared}
+use Rattle.tables.specs.Count.{howMany, someRow, has}
+use Rattle.merge.specs.Merged.{shared}
 use Rattle.join.specs.declared.Joined.{Joined}
-use Rattle.join.specs.Joined.{sharedNodes, sharedEdges, unionNodes, unionEdges, notOne, tooMuch, sheetsFault, unionFault, joinFault, tells}
-use Rattle.joining.specs.JoinedFiles.{filesFault, JoinsBytes, joined, JoinsFiles}
+use Rattle.join.specs.Joined.{sharedNodes, sharedEdges, unionNodes, unionEdges, notOne, tooMuch, sheetsFault, unionFault, joinFault, tells, joined}
+use Rattle.joining.specs.JoinedFiles.{filesFault, JoinsBytes, JoinsFiles}
 use Rattle.joining.specs.Lines.{digitsBy, decimal, twoLines, refusalLine, reportOf}
 use Rattle.joining.proofs.Joining.{fits}
-use Rattle.joining.proofs.Single.{bytes-one}
+use Rattle.join.proofs.Single.{joins-one}
 
 -- "nodes 8 shared 4", "edges 8 shared 2", each with the end of its line
 abbrev pub shipsLines : List ℕ
@@ -30,7 +30,7 @@ shipsLines =
     101 ∷ 100 ∷ 103 ∷ 101 ∷ 115 ∷ 32 ∷ 56 ∷ 32 ∷ 115 ∷ 104 ∷ 97 ∷ 114 ∷ 101 ∷ 100 ∷ 32 ∷ 50 ∷ 10 ∷ []
 
 lines : reportOf (tells sheetA sheetB sheetJ) ≡ shipsLines
-unfolding sheetA sheetB sheetJ headerOf nodeAt edgeAt edgeRow howMany has shared sharedNodes sharedEdges digitsBy decimal twoLines refusalLine reportOf
+unfolding sheetA sheetB sheetJ headerOf nodeAt edgeAt edgeRow howMany someRow has shared sharedNodes sharedEdges digitsBy decimal twoLines refusalLine reportOf
 lines = refl
 
 -- the two files are not refused, and hold the sheets' words
@@ -40,12 +40,12 @@ files = (refl, refl, refl, refl)
 
 -- the counts add up, and the joint file has 280 bytes
 counts : (headerOf sheetJ .nodes + sharedNodes sheetA sheetB ≡ headerOf sheetA .nodes + headerOf sheetB .nodes) × (headerOf sheetJ .edges + sharedEdges sheetA sheetB ≡ headerOf sheetA .edges + headerOf sheetB .edges) × (length (bytesOf sheetJ) ≡ 280)
-unfolding sheetA sheetB sheetJ bytesOf headerOf nodeAt edgeAt edgeRow howMany has shared sharedNodes sharedEdges
+unfolding sheetA sheetB sheetJ bytesOf headerOf nodeAt edgeAt edgeRow howMany someRow has shared sharedNodes sharedEdges
 counts = (refl, refl, refl)
 
 -- the union is 8 nodes and 8 edges, and nothing refuses the join where there is room
 union : (unionNodes sheetA sheetB ≡ 8) × (unionEdges sheetA sheetB ≡ 8) × (joinFault sheetA sheetB 10246 .number ≡ 0)
-unfolding sheetA sheetB verdict rowsVerdict sheetFault headerFault nodeFaultAt nodeFault rowOrder edgeFaultAt edgeShape edgeRest edgeFit refuse _then_ firstRow _orElse_ _when_otherwise_ headerOf nodeAt edgeAt edgeRow howMany has shared sharedNodes sharedEdges unionNodes unionEdges notOne tooMuch sheetsFault unionFault joinFault
+unfolding sheetA sheetB verdict rowsVerdict sheetFault headerFault nodeFaultAt nodeFault rowOrder edgeFaultAt edgeShape edgeRest edgeFit refuse _then_ firstRow _orElse_ _when_otherwise_ headerOf nodeAt edgeAt edgeRow howMany someRow has shared sharedNodes sharedEdges unionNodes unionEdges notOne tooMuch sheetsFault unionFault joinFault
 union = (refl, refl, refl)
 
 passes : (room : ℕ) → 280 ≤ room → filesFault (bytesOf sheetA) (bytesOf sheetB) room .number ≡ 0
@@ -59,5 +59,5 @@ pub ships-joined : (out o : List ℕ) (r : Joined) → 280 ≤ length out → Jo
 ships-joined out o r h x =
     let f = filesFault (bytesOf sheetA) (bytesOf sheetB) (length out) in
     let y : JoinsBytes f sheetA sheetB out r o = subst₂ (λ (a b : List ℕ). JoinsBytes f a b out r o) (files .2) (files .3) x in
-    let one = bytes-one f sheetA sheetB out y (joined sheetJ (passes (length out) h) (sister-ships .case11) (counts .0) (counts .1) (omega (arith, h, counts .2))) in
+    let one = joins-one bytesOf f sheetA sheetB out y (joined sheetJ (passes (length out) h) (sister-ships .case11) (counts .0) (counts .1) (omega (arith, h, counts .2))) in
     (ap reportOf (one .0) ∙ lines, one .1 ∙ ap (λ (n : ℕ). bytesOf sheetJ ++ drop n out) (counts .2))

@@ -16,6 +16,7 @@ use Rattle.paths.specs.Steps.{Layers, Starts}
 use Rattle.paths.proofs.Tests.{and-left, and-right, both}
 use Rattle.walk.specs.declared.Walk.{Walk}
 use Rattle.walk.specs.Arcs.{Others}
+use Rattle.walk.proofs.Visiting.{whole-layers}
 use Rattle.reach.specs.Reaching.{LeadsTo, ByDeed}
 use Rattle.least.specs.Least.{starting, DeedStarts, RowsByDeed}
 use Rattle.reach.proofs.Marking.{some-number, number-some, starts-tell}
@@ -37,7 +38,7 @@ pub deed-start : (x y : Node) (u number v : ℕ) → x ≡ y → v ≡ numberOf 
 deed-start x y u number v e q = q ∙ ap (λ (z : Node). numberOf (starting z u number)) e
 
 pub rows-by : (s t : List ℕ) (h : Header) (w : Walk) (d : List ℕ) (number : ℕ) (r₀ r : List ℕ) → length r ≡ maxNodes → DeedStarts s (h .nodes) d number r₀ → Layers (Others s t w false (h .edges) (h .edges)) (Starts r₀) r → RowsByDeed s t h w d number r
-rows-by s t h w d number r₀ r e st y = record { long = e; each = λ i l. starts-tell s t h w (λ x. starting (nodeAt s x) (getD d x 0) number) r₀ r st y i (ByDeed s t h w d number i) (from i) to }
+rows-by s t h w d number r₀ r e st y = record { long = e; each = λ i l. starts-tell s t h w (λ x. starting (nodeAt s x) (getD d x 0) number) r₀ r st (whole-layers s t w false (h .edges) (Starts r₀) r y) i (ByDeed s t h w d number i) (from i) to }
   where
     from : (i x : ℕ) → x < h .nodes → starting (nodeAt s x) (getD d x 0) number ≡ true → LeadsTo s t h w x i → ByDeed s t h w d number i
     from i x l e m =

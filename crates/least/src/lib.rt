@@ -1,5 +1,5 @@
 // Questions 8 and 9 at an office: the least triple that is Both, and the least person and folio with two deeds.
-use ask::Question;
+use question::Question;
 use sheet::Header;
 use sheet::Node;
 use walk::Walk;
@@ -16,8 +16,8 @@ ghost use Rattle.sheet.specs.Accepted.{NodesFormed, WellFormed};
 ghost use Rattle.sheet.specs.Named.{seenAt};
 ghost use Rattle.walk.specs.Arcs.{Arranged};
 ghost use Rattle.meaning.specs.Questions.{LeastBothIs, LeastPairIs};
-ghost use Rattle.ask.specs.Asked.{FirstStanding};
-ghost use Rattle.ask.specs.Placed.{AtOffice};
+ghost use Rattle.question.specs.Asked.{FirstStanding};
+ghost use Rattle.question.specs.Checked.{AtOffice};
 ghost use Rattle.reach.specs.Found.{Finds};
 ghost use Rattle.least.specs.Least.{Prepared, starting, DeedStarts, RowsByDeed, common, deedIn, repeated, FirstRow, PairRows, Hits};
 

@@ -6,7 +6,7 @@ use mathlib.Core.List.{List}
 use borrow.Author.Tests.{ne-eqb}
 use Rattle.sheet.specs.Named.{seenAt}
 use Rattle.meaning.specs.Questions.{PersonsAre, HoldersAre, UnreachedAre, LeastBothIs, LeastPairIs, RedundantAre}
-use Rattle.ask.specs.declared.Question.{Question}
+use Rattle.question.specs.declared.Question.{Question}
 use Rattle.reach.specs.Found.{Finds}
 use Rattle.lists.specs.Sought.{soughtIs}
 

@@ -8,9 +8,9 @@ use lib.ListN.{length, take}
 use lib.Seq.{length-take-le}
 use Rattle.sheet.specs.Refusals as refusals
 use Rattle.sheet.specs.Refusals.{refuse}
-use Rattle.ask.specs.declared.Answer.{Answer}
-use Rattle.ask.specs.Replies.{Shows}
-use Rattle.ask.proofs.Telling.{show-missing, show-short, show-written}
+use Rattle.question.specs.declared.Answer.{Answer}
+use Rattle.question.specs.Replies.{Shows}
+use Rattle.question.proofs.Telling.{show-missing, show-short, show-written}
 use Rattle.reach.specs.Found.{noneFound, Finds, some, none}
 use Rattle.lists.specs.Handed.{Handed, missing, short, written}
 

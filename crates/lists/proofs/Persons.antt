@@ -22,10 +22,12 @@ use Rattle.meaning.specs.Forms.{Rising}
 use Rattle.meaning.specs.Questions.{InCategory, PersonsAre, HoldersAre}
 use Rattle.meaning.proofs.Axioms.{a1-a2}
 use Rattle.walk.specs.declared.Walk.{Walk}
-use Rattle.ask.specs.Asked.{FirstStanding, stands, someRow, known}
-use Rattle.ask.specs.Placed.{AtOffice}
+use Rattle.question.specs.Asked.{FirstStanding, stands, known}
+use Rattle.tables.specs.Count.{someRow}
+use Rattle.question.specs.Checked.{AtOffice}
 use Rattle.ask.proofs.Links.{walkFor}
-use Rattle.ask.proofs.Deciding.{words-of, found-class}
+use Rattle.sheet.proofs.Forming.{words-of}
+use Rattle.question.proofs.Known.{found-class}
 use Rattle.reach.specs.Found.{Finds}
 use Rattle.reach.specs.Reaching.{Tells, LeadsTo}
 use Rattle.lists.specs.Picked.{PersonLeads, PersonsReach, wanted, PickedNumber}

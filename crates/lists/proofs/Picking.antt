@@ -14,9 +14,9 @@ use Rattle.sheet.specs.Refusals.{_when_otherwise_, _orElse_}
 use Rattle.sheet.specs.Rows.{headerOf, nodeAt}
 use Rattle.paths.proofs.Tests.{and-left, and-right, both}
 use Rattle.meaning.specs.Forms.{Rising}
-use Rattle.ask.specs.declared.Question.{Question}
-use Rattle.ask.specs.Asked.{FirstStanding, stands, known, badOffice}
-use Rattle.ask.proofs.Placing.{found-known}
+use Rattle.question.specs.declared.Question.{Question}
+use Rattle.question.specs.Asked.{FirstStanding, stands, known, badOffice}
+use Rattle.question.proofs.Known.{found-known}
 use Rattle.lists.specs.Picked.{wanted, Picked, PickedNumber}
 use Rattle.lists.specs.Sought.{unknownCategory, unknownRight, badPair, soughtFault}
 use Rattle.reach.proofs.Collecting.{Collected, collected-all}

@@ -7,9 +7,9 @@ use Rattle.sheet.specs.declared.Refusal.{Refusal}
 use Rattle.tables.specs.Office.{View}
 use Rattle.meaning.specs.Questions.{PersonsAre, HoldersAre, UnreachedAre, LeastBothIs, LeastPairIs, RedundantAre}
 use Rattle.meaning.proofs.Unique.{persons-one, holders-one, unreached-one, least-both-one, least-pair-one, redundant-one}
-use Rattle.ask.specs.declared.Answer.{Answer}
-use Rattle.ask.specs.Replies.{Shows}
-use Rattle.ask.proofs.Single.{shows-one}
+use Rattle.question.specs.declared.Answer.{Answer}
+use Rattle.question.specs.Replies.{Shows}
+use Rattle.question.proofs.Single.{shows-one}
 
 module _ (g : View) (r : Refusal) (out : List ℕ) {a b : Answer} {o o′ : List ℕ} where
   -- question 5

@@ -1,4 +1,4 @@
--- A run from all persons' rows: what its numbers tell of each row.
+-- A walk from all persons' rows: what its numbers tell of each row.
 -- Assumes nothing.
 use Prim.Native.Nat.{ℕ}
 use mathlib.Core.Path.{_≡_}
@@ -12,14 +12,14 @@ use Rattle.sheet.specs.Limits.{maxNodes}
 use Rattle.sheet.specs.Rows.{nodeAt}
 use Rattle.paths.specs.Steps.{Layers, Starts}
 use Rattle.walk.specs.declared.Walk.{Walk}
-use Rattle.walk.specs.Arcs.{Others}
+use Rattle.walk.specs.Arcs.{Steps}
 use Rattle.reach.specs.Reaching.{Started}
 use Rattle.lists.specs.Picked.{FromPersons, PersonsLead}
 use Rattle.reach.proofs.Marking.{starts-tell}
 
 -- ---- from the persons' rows
 
-pub persons-lead : (s t : List ℕ) (h : Header) (w : Walk) (r₀ r : List ℕ) → length r ≡ maxNodes → Started (λ i. eqb (nodeAt s i .class) 1) (h .nodes) r₀ → Layers (Others s t w false (h .edges) (h .edges)) (Starts r₀) r → PersonsLead s t h w r
+pub persons-lead : (s t : List ℕ) (h : Header) (w : Walk) (r₀ r : List ℕ) → length r ≡ maxNodes → Started (λ i. eqb (nodeAt s i .class) 1) (h .nodes) r₀ → Layers (Steps s t w false (h .edges)) (Starts r₀) r → PersonsLead s t h w r
 persons-lead s t h w r₀ r e st y =
     record {
       long = e;

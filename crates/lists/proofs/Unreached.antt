@@ -20,9 +20,9 @@ use Rattle.meaning.specs.Forms.{Rising}
 use Rattle.meaning.specs.Questions.{UnreachedAre}
 use Rattle.meaning.proofs.Axioms.{a1-a2}
 use Rattle.walk.specs.declared.Walk.{Walk}
-use Rattle.ask.specs.Placed.{AtOffice}
+use Rattle.question.specs.Checked.{AtOffice}
 use Rattle.ask.proofs.Links.{walkFor}
-use Rattle.ask.proofs.Deciding.{words-of}
+use Rattle.sheet.proofs.Forming.{words-of}
 use Rattle.reach.specs.Found.{Finds}
 use Rattle.reach.specs.Reaching.{LeadsTo}
 use Rattle.lists.specs.Picked.{FromPersons, PersonsLead, wanted, PickedNumber}

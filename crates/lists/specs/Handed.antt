@@ -4,9 +4,9 @@ use Prim.Native.Nat.{ℕ, _+_, _<_, _≤_}
 use mathlib.Core.Path.{_≡_}
 use mathlib.Core.List.{List, _++_}
 use lib.ListN.{length, take, drop}
-use Rattle.ask.specs.declared.Answer.{Answer}
-use Rattle.ask.specs.Asked.{plain}
-use Rattle.ask.specs.Replies.{refusedBy, tells}
+use Rattle.question.specs.declared.Answer.{Answer}
+use Rattle.question.specs.Asked.{plain}
+use Rattle.question.specs.Replies.{refusedBy, tells}
 use Rattle.reach.specs.Found.{noneFound}
 
 -- the first n words of a list go to the front of the output: 26 where none are found, 25 where the output is shorter, and then it stays as it is

@@ -6,10 +6,10 @@ use Rattle.sheet.specs.Refusals.{_orElse_}
 use Rattle.sheet.specs.Rows.{headerOf}
 use Rattle.sheet.specs.Named.{seenAt}
 use Rattle.meaning.specs.Questions.{PersonsAre, HoldersAre, UnreachedAre, LeastBothIs, LeastPairIs, RedundantAre}
-use Rattle.ask.specs.declared.Question.{Question}
-use Rattle.ask.specs.declared.Answer.{Answer}
-use Rattle.ask.specs.Asked.{badOffice, afterSheet}
-use Rattle.ask.specs.Replies.{Shows}
+use Rattle.question.specs.declared.Question.{Question}
+use Rattle.question.specs.declared.Answer.{Answer}
+use Rattle.question.specs.Asked.{badOffice, afterSheet}
+use Rattle.question.specs.Replies.{Shows}
 use Rattle.lists.specs.Sought.{unknownCategory, unknownRight, badPair}
 
 -- question 5: the numbers of the persons in a category, rising

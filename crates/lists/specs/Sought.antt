@@ -7,8 +7,8 @@ use Rattle.sheet.specs.Refusals.{_is_, _when_otherwise_, _orElse_}
 use Rattle.sheet.specs.Rows.{headerOf}
 use Rattle.sheet.specs.Named.{seenAt}
 use Rattle.meaning.specs.Questions.{PersonsAre, HoldersAre, UnreachedAre, LeastBothIs, LeastPairIs, RedundantAre}
-use Rattle.ask.specs.declared.Question.{Question}
-use Rattle.ask.specs.Asked.{known, badOffice}
+use Rattle.question.specs.declared.Question.{Question}
+use Rattle.question.specs.Asked.{known, badOffice}
 
 -- question 5: 24 unknown category
 unfoldable pub unknownCategory : List ℕ → Question → ℕ

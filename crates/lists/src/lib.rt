@@ -1,6 +1,6 @@
 // Questions 5 to 10: the persons in a category, the holders of a right, the folios out of reach, the least triple that is Both, the least pair, and the redundant rows.
-use ask::Answer;
-use ask::Question;
+use question::Answer;
+use question::Question;
 use sheet::Header;
 use sheet::Node;
 use walk::Walk;
@@ -18,9 +18,9 @@ ghost use Rattle.sheet.specs.Named.{seenAt};
 ghost use Rattle.walk.specs.Arcs.{Arranged};
 ghost use Rattle.meaning.specs.Forms.{Rising};
 ghost use Rattle.meaning.specs.Questions.{PersonsAre, HoldersAre, UnreachedAre};
-ghost use Rattle.ask.specs.Asked.{known, badOffice, plain, afterSheet};
-ghost use Rattle.ask.specs.Placed.{AtOffice};
-ghost use Rattle.ask.specs.Replies.{Shows};
+ghost use Rattle.question.specs.Asked.{known, badOffice, plain, afterSheet};
+ghost use Rattle.question.specs.Checked.{AtOffice};
+ghost use Rattle.question.specs.Replies.{Shows};
 ghost use Rattle.reach.specs.Found.{noneFound, Finds};
 ghost use Rattle.lists.specs.Handed.{Handed};
 ghost use Rattle.lists.specs.Sought.{unknownCategory, unknownRight, badPair, soughtFault, soughtIs};
@@ -166,7 +166,7 @@ fn persons_within(
     requires { ⌜ AtOffice (now sheet) (now edges) h k mark × (known (now sheet) false (suc k) 2 (q .category) ≡ true) × (length (now list) ≡ maxEdges) ⌝ }
     ensures { λ r. ⌜ Finds (PersonsAre (seenAt (now (sheet .entry)) (suc k)) (q .category)) (now (list .exit)) r ⌝ }
 {
-    let to = ask::seek(sheet, h, false, k, mark, 2, q.category);
+    let to = question::seek(sheet, h, false, k, mark, 2, q.category);
     persons_to(sheet, edges, h, k, mark, 0, to, list)
 }
 
@@ -183,7 +183,7 @@ fn persons_holding(
     requires { ⌜ AtOffice (now sheet) (now edges) h k mark × (known (now sheet) false (suc k) 3 (q .deed) ≡ true) × (known (now sheet) false (suc k) 4 (q .folio) ≡ true) × (length (now list) ≡ maxEdges) ⌝ }
     ensures { λ r. ⌜ Finds (HoldersAre (seenAt (now (sheet .entry)) (suc k)) (q .deed) (q .folio)) (now (list .exit)) r ⌝ }
 {
-    let to = ask::seek(sheet, h, false, k, mark, 4, q.folio);
+    let to = question::seek(sheet, h, false, k, mark, 4, q.folio);
     persons_to(sheet, edges, h, k, mark, q.deed, to, list)
 }
 
@@ -215,19 +215,12 @@ fn person_starts(sheet: &[u32], h: Header) -> [u32; ROWS]
 }
 
 // For each row, whether the walk leads to it from some person's: 0 no, any other yes.
-fn persons_lead(
-    sheet: &[u32],
-    edges: &[u32],
-    h: Header,
-    w: Walk,
-    head: &[u32],
-    next: &[u32],
-) -> [u32; ROWS]
-    requires { ⌜ WellFormed (now sheet) (now edges) h × (0 < w .mark) × Arranged (now sheet) (now edges) h w false (now head) (now next) ⌝ }
+fn persons_lead(sheet: &[u32], edges: &[u32], h: Header, w: Walk) -> [u32; ROWS]
+    requires { ⌜ WellFormed (now sheet) (now edges) h × (0 < w .mark) ⌝ }
     ensures { λ r. ⌜ PersonsLead (now (sheet .entry)) (now (edges .entry)) h w r ⌝ }
 {
     let mut rows = person_starts(sheet, h);
-    walk::run(sheet, edges, h, w, false, h.edges, head, next, &mut rows);
+    walk::layers(sheet, edges, h, w, false, &mut rows);
     rows
 }
 
@@ -248,10 +241,7 @@ fn folios_unreached(
         right: 3,
         deed: 0,
     };
-    let mut head = [0u32; ROWS];
-    let mut next = [0u32; LIST];
-    walk::arrange(sheet, edges, h, w, false, &mut head, &mut next);
-    let d = persons_lead(sheet, edges, h, w, &head, &next);
+    let d = persons_lead(sheet, edges, h, w);
     numbers_of(sheet, h, k, mark, 4, false, d, list)
 }
 
@@ -260,7 +250,7 @@ fn is_known(sheet: &[u32], h: Header, k: u32, mark: u32, class: u32, number: u32
     requires { ⌜ NodesFormed (now sheet) h × (h ≡ headerOf (now sheet)) × (mark ≡ 2 ^ k) × (0 < mark) ⌝ }
     ensures { λ r. ⌜ r ≡ known (now (sheet .entry)) false (suc k) class number ⌝ }
 {
-    ask::seek(sheet, h, false, k, mark, class, number) < h.nodes
+    question::seek(sheet, h, false, k, mark, class, number) < h.nodes
 }
 
 // A line of the table: its fault where office k + 1 does not know a type and number, else what the lines after it say.
@@ -354,14 +344,14 @@ fn hand_over(list: &[u32], n: u32, out: &mut [u32]) -> Answer
     ensures { λ a. ⌜ Handed (now (list .entry)) n (now (out .entry)) a (now (out .exit)) ⌝ }
 {
     if n == reach::NONE {
-        return ask::refused_by(26);
+        return question::refused_by(26);
     }
     let size = n as usize;
     if out.len() < size {
-        return ask::refused_by(25);
+        return question::refused_by(25);
     }
     copy(list, size, out);
-    ask::told(0, n)
+    question::told(0, n)
 }
 
 // What question 5, 6 and so on to 10 finds at office k + 1, by the question's number, where nothing is refused.
@@ -427,15 +417,15 @@ fn sought_checked(
     requires { ⌜ WellFormed (now sheet) (now edges) h ⌝ }
     ensures { λ a. ⌜ Shows (plain (soughtFault number (now (sheet .entry)) q)) (soughtIs number (now (sheet .entry)) q) (now (out .entry)) a (now (out .exit)) ⌝ }
 {
-    let n = ask::bad_office(h, q.office);
+    let n = question::bad_office(h, q.office);
     if n != 0 {
-        return ask::refused_by(n);
+        return question::refused_by(n);
     }
     let k = q.office - 1;
-    let mark = ask::mark_of(k);
+    let mark = question::mark_of(k);
     let m = fault_at(number, sheet, h, k, mark, q);
     if m != 0 {
-        return ask::refused_by(m);
+        return question::refused_by(m);
     }
     sought_at(number, sheet, edges, h, k, mark, q, out)
 }
@@ -446,11 +436,10 @@ fn sought(number: u32, sheet: &[u32], q: Question, out: &mut [u32]) -> Answer
 {
     let r = verdict::check(sheet);
     if r.number != 0 {
-        return ask::refused(r);
+        return question::refused(r);
     }
     let h = sheet::header_of(sheet);
-    let from = h.edgeoffset as usize;
-    sought_checked(number, sheet, &sheet[from..], h, q, out)
+    sought_checked(number, sheet, sheet::edge_table(sheet, h), h, q, out)
 }
 
 // Question 5, the numbers of the persons in a category, directly or through containment, rising; how many in `count`.

@@ -1,6 +1,6 @@
 -- What a search for an identity tells of a sheet: that it has the identity, where its row stands, and what a lookup gives.
 -- Assumes nothing.
-use Prim.Native.Nat.{ℕ, zero, suc, _+_, _<_, _≤_}
+use Prim.Native.Nat.{ℕ, _+_, _<_, _≤_}
 use native.Mathlib.Omega.{arith}
 use native.Mathlib.Decide.{decLt}
 use mathlib.Core.Path.{_≡_, refl, sym, ap, subst, _∙_}
@@ -8,20 +8,20 @@ use mathlib.Core.Bool.{Bool, true, false, not, _||_, true≢false}
 use mathlib.Core.List.{List, []}
 use lib.ListN.{length, take, drop, length-take}
 use Rattle.tables.specs.Key.{Key}
-use Rattle.tables.proofs.Keys.{eq-same, ne-same}
+use Rattle.tables.proofs.Counts.{has-row, has-not}
 use Rattle.sheet.specs.declared.Refusal.{Refusal}
 use Rattle.sheet.specs.declared.Header.{Header}
 use Rattle.sheet.specs.declared.Found.the-variants.{At, Nowhere}
 use Rattle.sheet.specs.declared.Found.{Found}
 use Rattle.sheet.specs.Limits.{nodeWords, edgesFrom}
-use Rattle.sheet.specs.Refusals.{_when_otherwise_, none, refuse, _then_}
+use Rattle.sheet.specs.Refusals.{_when_otherwise_, none, refuse}
 use Rattle.sheet.specs.Rows.{headerOf, nodeKeyAt}
 use Rattle.sheet.specs.Verdict.{verdict}
 use Rattle.sheet.specs.Accepted.{Accepted}
 use Rattle.sheet.specs.Found.{FoundIs, stands, missing}
-use Rattle.sheet.proofs.Refusing.{then-some-is, then-none-is, then-good}
+use Rattle.sheet.proofs.Refusing.{refuse-plain, then-some-is, then-none-is, then-good}
 use Rattle.sheet.proofs.Accepting.{accepted}
-use Rattle.lookup.specs.Looked.{anyRow, has, neither, lookFault, LooksUp, refused, in-first, in-second, StandsAt, at-row, nowhere}
+use Rattle.lookup.specs.Looked.{hasIdentity, neither, lookFault, LooksUp, refused, in-first, in-second, StandsAt, at-row, nowhere}
 
 -- ---- where a row stands
 
@@ -39,21 +39,6 @@ found-nowhere s h k x e f q = go (subst (FoundIs (nodeKeyAt s) (h .nodes) k) q f
 
 -- ---- whether a sheet has the identity
 
-any-at : (f : ℕ → Bool) (n i : ℕ) → i < n → f i ≡ true → anyRow f n ≡ true
-unfolding anyRow
-any-at f zero i l e = absurd (omega (arith, l))
-any-at f (suc n) i l e = go (f n) refl (decLt i n) (λ m. any-at f n i m e)
-  where
-    go : (b : Bool) → f n ≡ b → Dec (i < n) → (i < n → anyRow f n ≡ true) → (b || anyRow f n) ≡ true
-    go true q d more = refl
-    go false q (yes m) more = more m
-    go false q (no m) more = let z : i ≡ n = omega arith in absurd (true≢false (sym e ∙ ap f z ∙ q))
-
-any-none : (f : ℕ → Bool) (n : ℕ) → ((i : ℕ) → i < n → f i ≡ false) → anyRow f n ≡ false
-unfolding anyRow
-any-none f zero h = refl
-any-none f (suc n) h = rw (h n (omega arith)) (any-none f n (λ i l. h i (omega arith)))
-
 -- a row that stands: its words are there
 pub record Row (s : List ℕ) (k : Key) (r : ℕ) : Type 0 where
   pub row : ℕ
@@ -67,31 +52,31 @@ pub stands-row : (s : List ℕ) (k : Key) (r : ℕ) → Accepted s → StandsAt 
 stands-row s k r acc (at-row i l e) h = record { row = i; inside = l; names = e; place = refl; room = omega (arith, l, acc .nodes .header .whole); low = omega (arith, l, acc .nodes .header .nodes) }
 stands-row s k r acc (nowhere n) h = absurd (omega arith)
 
-pub has-row : (s : List ℕ) (k : Key) (i : ℕ) → i < headerOf s .nodes → nodeKeyAt s i ≡ k → has s k ≡ true
-unfolding has
-has-row s k i l e = any-at _ (headerOf s .nodes) i l (eq-same (nodeKeyAt s i) k e)
+pub identity-in : (s : List ℕ) (k : Key) (i : ℕ) → i < headerOf s .nodes → nodeKeyAt s i ≡ k → hasIdentity s k ≡ true
+unfolding hasIdentity
+identity-in s k i l e = has-row (headerOf s .nodes) (nodeKeyAt s) k i l e
 
-pub has-none : (s : List ℕ) (k : Key) (r : ℕ) → Accepted s → StandsAt s k r → length s ≤ r → has s k ≡ false
-unfolding has
+pub has-none : (s : List ℕ) (k : Key) (r : ℕ) → Accepted s → StandsAt s k r → length s ≤ r → hasIdentity s k ≡ false
+unfolding hasIdentity
 has-none s k r acc (at-row i l e) h = absurd (omega (arith, l, h, acc .nodes .header .whole))
-has-none s k r acc (nowhere n) h = any-none _ (headerOf s .nodes) (λ i l. ne-same (nodeKeyAt s i) k (n i l))
+has-none s k r acc (nowhere n) h = has-not (headerOf s .nodes) (nodeKeyAt s) k n
 
 -- ---- 32
 
 module _ (a b : List ℕ) (k : Key) where
-  pub found-first : has a k ≡ true → 0 ≡ neither a b k
+  pub found-first : hasIdentity a k ≡ true → 0 ≡ neither a b k
   unfolding neither _when_otherwise_
   found-first e = rw e refl
 
-  pub found-second : has b k ≡ true → 0 ≡ neither a b k
+  pub found-second : hasIdentity b k ≡ true → 0 ≡ neither a b k
   unfolding neither _when_otherwise_
-  found-second e = go (has a k)
+  found-second e = go (hasIdentity a k)
     where
-      go : (t : Bool) → 0 ≡ (32 when not (t || has b k) otherwise 0)
+      go : (t : Bool) → 0 ≡ (32 when not (t || hasIdentity b k) otherwise 0)
       go true = refl
       go false = rw e refl
 
-  pub found-neither : has a k ≡ false → has b k ≡ false → 32 ≡ neither a b k
+  pub found-neither : hasIdentity a k ≡ false → hasIdentity b k ≡ false → 32 ≡ neither a b k
   unfolding neither _when_otherwise_
   found-neither e f = rw (e, f) refl
 
@@ -106,12 +91,8 @@ module _ (a b : List ℕ) (k : Key) where
   second-refuses r t e z f y = then-none-is r (verdict 1 a) t _ e z (then-some-is t (verdict 2 b) _ f y)
 
   pub neither-refuses : (r t : Refusal) (n : ℕ) → r ≡ verdict 1 a → r .number ≡ 0 → t ≡ verdict 2 b → t .number ≡ 0 → n ≡ neither a b k → record { number = n; sheet = 0; row = 0 } ≡ lookFault a b k
-  unfolding lookFault refuse
-  neither-refuses r t n e z f y q = then-none-is r (verdict 1 a) (record { number = n; sheet = 0; row = 0 }) _ e z (then-none-is t (verdict 2 b) (record { number = n; sheet = 0; row = 0 }) _ f y (plain n (neither a b k) q))
-    where
-      plain : (n m : ℕ) → n ≡ m → record { number = n; sheet = 0; row = 0 } ≡ refuse m 0 0 none
-      plain n zero q = rw q refl
-      plain n (suc m) q = rw q refl
+  unfolding lookFault
+  neither-refuses r t n e z f y q = then-none-is r (verdict 1 a) (record { number = n; sheet = 0; row = 0 }) _ e z (then-none-is t (verdict 2 b) (record { number = n; sheet = 0; row = 0 }) _ f y (refuse-plain (neither a b k) n q))
 
   -- ---- what is given
 
@@ -125,7 +106,7 @@ module _ (a b : List ℕ) (k : Key) where
     pub gives-first : (at : ℕ) → r .number ≡ 0 → Row a k at → LooksUp a b k (take nodeWords (drop at a))
     gives-first at z x = subst (λ (y : ℕ). LooksUp a b k (take nodeWords (drop y a))) (sym (x .place)) (in-first (x .row) (fault ∙ z) (x .inside) (x .names))
 
-    pub gives-second : (at : ℕ) → r .number ≡ 0 → has a k ≡ false → Row b k at → LooksUp a b k (take nodeWords (drop at b))
+    pub gives-second : (at : ℕ) → r .number ≡ 0 → hasIdentity a k ≡ false → Row b k at → LooksUp a b k (take nodeWords (drop at b))
     gives-second at z h x = subst (λ (y : ℕ). LooksUp a b k (take nodeWords (drop y b))) (sym (x .place)) (in-second (x .row) (fault ∙ z) h (x .inside) (x .names))
 
     -- nothing is refused, so both sheets are accepted, and one that the first does not have is in the second
@@ -135,18 +116,18 @@ module _ (a b : List ℕ) (k : Key) where
         let v = then-good (verdict 1 a) _ (fault ∙ z) in
         (accepted 1 a (v .0), accepted 2 b (then-good (verdict 2 b) _ (v .1) .0))
 
-    pub in-other : r .number ≡ 0 → has a k ≡ false → has b k ≡ true
+    pub in-other : r .number ≡ 0 → hasIdentity a k ≡ false → hasIdentity b k ≡ true
     unfolding lookFault neither refuse _when_otherwise_
     in-other z h =
         let v = then-good (verdict 1 a) _ (fault ∙ z) in
-        go (has b k) (rw h at (then-good (verdict 2 b) _ (v .1) .1))
+        go (hasIdentity b k) (rw h at (then-good (verdict 2 b) _ (v .1) .1))
       where
         go : (t : Bool) → refuse (32 when not (false || t) otherwise 0) 0 0 none .number ≡ 0 → t ≡ true
         go true e = refl
         go false e = absurd (omega (arith, e))
 
 -- the place of one that the sheet has
-pub has-place : (s : List ℕ) (k : Key) (r : ℕ) → Accepted s → StandsAt s k r → has s k ≡ true → r < length s
+pub has-place : (s : List ℕ) (k : Key) (r : ℕ) → Accepted s → StandsAt s k r → hasIdentity s k ≡ true → r < length s
 has-place s k r acc st h = go (decLt r (length s))
   where
     go : Dec (r < length s) → r < length s

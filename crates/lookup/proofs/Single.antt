@@ -9,7 +9,7 @@ use Rattle.tables.proofs.Keys.{one-row}
 use Rattle.sheet.specs.Rows.{headerOf, nodeKeyAt}
 use Rattle.sheet.specs.Accepted.{Accepted}
 use Rattle.lookup.specs.Looked.{rowWords, lookFault, LooksUp, refused, in-first, in-second}
-use Rattle.lookup.proofs.Looking.{has-row, both-accepted}
+use Rattle.lookup.proofs.Looking.{identity-in, both-accepted}
 
 -- one row has an identity
 one-place : (s : List ℕ) → Accepted s → (k : Key) (i j : ℕ) → i < headerOf s .nodes → j < headerOf s .nodes → nodeKeyAt s i ≡ k → nodeKeyAt s j ≡ k → i ≡ j
@@ -21,7 +21,7 @@ looked-single a b k (refused z) (in-first i e l n) = absurd (z e)
 looked-single a b k (refused z) (in-second i e h l n) = absurd (z e)
 looked-single a b k (in-first i e l n) (refused z) = absurd (z e)
 looked-single a b k (in-first i e l n) (in-first j e′ l′ n′) = ap (rowWords a) (one-place a (both-accepted a b k (lookFault a b k) refl e .0) k i j l l′ n n′)
-looked-single a b k (in-first i e l n) (in-second j e′ h l′ n′) = absurd (true≢false (sym (has-row a k i l n) ∙ h))
+looked-single a b k (in-first i e l n) (in-second j e′ h l′ n′) = absurd (true≢false (sym (identity-in a k i l n) ∙ h))
 looked-single a b k (in-second i e h l n) (refused z) = absurd (z e)
-looked-single a b k (in-second i e h l n) (in-first j e′ l′ n′) = absurd (true≢false (sym (has-row a k j l′ n′) ∙ h))
+looked-single a b k (in-second i e h l n) (in-first j e′ l′ n′) = absurd (true≢false (sym (identity-in a k j l′ n′) ∙ h))
 looked-single a b k (in-second i e h l n) (in-second j e′ h′ l′ n′) = ap (rowWords b) (one-place b (both-accepted a b k (lookFault a b k) refl e .1) k i j l l′ n n′)

@@ -1,29 +1,25 @@
 -- Looking an identity up in two sheets at once.
 -- Assumes nothing.
-use Prim.Native.Nat.{ℕ, zero, suc, _<_}
+use Prim.Native.Nat.{ℕ, _<_}
 use mathlib.Core.Path.{_≡_}
 use mathlib.Core.Bool.{Bool, false, not, _||_}
 use mathlib.Core.List.{List, []}
 use lib.ListN.{length, take, drop}
-use Rattle.tables.specs.Key.{Key, sameKey}
+use Rattle.tables.specs.Count.{has}
+use Rattle.tables.specs.Key.{Key}
 use Rattle.sheet.specs.declared.Refusal.{Refusal}
 use Rattle.sheet.specs.Limits.{nodeWords, edgesFrom}
 use Rattle.sheet.specs.Refusals.{_when_otherwise_, none, refuse, _then_}
 use Rattle.sheet.specs.Rows.{headerOf, nodeKeyAt}
 use Rattle.sheet.specs.Verdict.{verdict}
 
--- some row below n passes
-unfoldable pub anyRow : (ℕ → Bool) → ℕ → Bool
-anyRow f zero = false
-anyRow f (suc n) = f n || anyRow f n
-
 -- a sheet has the identity
-unfoldable pub has : List ℕ → Key → Bool
-has s k = anyRow (λ i. sameKey (nodeKeyAt s i) k) (headerOf s .nodes)
+unfoldable pub hasIdentity : List ℕ → Key → Bool
+hasIdentity s k = has (headerOf s .nodes) (nodeKeyAt s) k
 
 -- 32 identity in neither sheet
 unfoldable pub neither : List ℕ → List ℕ → Key → ℕ
-neither a b k = 32 when not (has a k || has b k) otherwise 0
+neither a b k = 32 when not (hasIdentity a k || hasIdentity b k) otherwise 0
 
 -- what is refused: the first sheet's, the second's, then 32
 unfoldable pub lookFault : List ℕ → List ℕ → Key → Refusal
@@ -37,7 +33,7 @@ rowWords s i = take nodeWords (drop (edgesFrom i) s)
 pub data LooksUp (a b : List ℕ) (k : Key) : List ℕ → Type 0 where
   refused : (lookFault a b k .number ≡ 0 → ⊥) → LooksUp a b k []
   in-first : (i : ℕ) → lookFault a b k .number ≡ 0 → i < headerOf a .nodes → nodeKeyAt a i ≡ k → LooksUp a b k (rowWords a i)
-  in-second : (i : ℕ) → lookFault a b k .number ≡ 0 → has a k ≡ false → i < headerOf b .nodes → nodeKeyAt b i ≡ k → LooksUp a b k (rowWords b i)
+  in-second : (i : ℕ) → lookFault a b k .number ≡ 0 → hasIdentity a k ≡ false → i < headerOf b .nodes → nodeKeyAt b i ≡ k → LooksUp a b k (rowWords b i)
 
 -- where the words of an identity's row start; the length where no row has it
 pub data StandsAt (s : List ℕ) (k : Key) : ℕ → Type 0 where

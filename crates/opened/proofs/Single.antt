@@ -4,14 +4,15 @@ use Prim.Native.Nat.{ℕ}
 use mathlib.Core.Path.{_≡_, sym, subst, _∙_}
 use mathlib.Core.List.{List}
 use denote.Ref.{RefT, now}
-use Rattle.sheet.specs.Refusals.{_is_}
 use Rattle.sheet.specs.Rows.{headerOf}
 use Rattle.sheet.specs.Named.{seenAt}
-use Rattle.ask.specs.declared.Question.{Question}
-use Rattle.ask.specs.declared.Answer.{Answer}
-use Rattle.ask.specs.Asked.{sideOf}
-use Rattle.ask.specs.Promises.{TellsPath}
-use Rattle.ask.proofs.Single.{replies-one, answer-single, joint-single, witness-single, listed-single}
+use Rattle.question.specs.declared.Question.{Question}
+use Rattle.question.specs.declared.Answer.{Answer}
+use Rattle.question.specs.Asked.{sideOf}
+use Rattle.claim.specs.Promises.{TellsPath}
+use Rattle.question.proofs.Single.{replies-one}
+use Rattle.ask.proofs.Single.{answer-single, joint-single, witness-single}
+use Rattle.claim.proofs.Single.{listed-single}
 use Rattle.lists.proofs.Single.{persons-single, holders-single, unreached-single, triple-single, pair-single, redundant-single}
 use Rattle.opened.specs.declared.Opened.{Opened}
 use Rattle.opened.specs.declared.Which.{Which}

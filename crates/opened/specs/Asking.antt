@@ -4,9 +4,9 @@ use Prim.Native.Nat.{ℕ}
 use mathlib.Core.Path.{_≡_}
 use mathlib.Core.List.{List}
 use Rattle.sheet.specs.Refusals.{_is_}
-use Rattle.ask.specs.declared.Question.{Question}
-use Rattle.ask.specs.declared.Answer.{Answer}
-use Rattle.ask.specs.Asked.{afterSheet}
+use Rattle.question.specs.declared.Question.{Question}
+use Rattle.question.specs.declared.Answer.{Answer}
+use Rattle.question.specs.Asked.{afterSheet}
 use Rattle.ask.specs.Promises.{AnswersAtOffice, AnswersJointly, Witnesses}
 use Rattle.lists.specs.Sought.{chosen}
 use Rattle.lists.specs.Promises.{ListsPersons, ListsHolders, ListsUnreached, ShowsLeastBoth, ShowsLeastPair, ListsRedundant}

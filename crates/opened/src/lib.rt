@@ -1,10 +1,10 @@
 // The opened sheet: the caller's words held in a struct, and asked many questions. Each question checks the words again.
-use ask::Answer;
-use ask::Question;
+use question::Answer;
+use question::Question;
 use sheet::Header;
 ghost use mathlib.Core.Path.{_≡_};
 ghost use Rattle.sheet.specs.Rows.{word, headerOf};
-ghost use Rattle.ask.specs.Promises.{TellsPath};
+ghost use Rattle.claim.specs.Promises.{TellsPath};
 ghost use Rattle.opened.specs.Asking.{questionOf, Answers};
 
 // A sheet that was opened: the caller's words, and the counts that its header names. No question looks at the counts.
@@ -92,7 +92,7 @@ impl<'a> Opened<'a> {
     pub fn is_path(self, q: Question, list: &[u32]) -> Answer
         ensures { λ a. ⌜ TellsPath (now (self .entry .words)) q (now (list .entry)) a ⌝ }
     {
-        ask::is_path(self.words, q, list)
+        claim::is_path(self.words, q, list)
     }
 }
 

@@ -102,10 +102,10 @@ one-start : {R : ℕ → ℕ → Type 0} {S : ℕ → Type 0} {n i : ℕ} → Re
 one-start (start {i = i} x) = (i, x, start refl)
 one-start (then r st) = let o = one-start r in (o .0, o .1, then (o .2) st)
 
--- a run from the rows that pass tells whether one of them leads to a row
-pub starts-tell : (s t : List ℕ) (h : Header) (w : Walk) (test : ℕ → Bool) (r₀ r : List ℕ) → Started test (h .nodes) r₀ → Layers (Others s t w false (h .edges) (h .edges)) (Starts r₀) r → (i : ℕ) (P : Type 0)
+-- a walk from the rows that pass tells whether one of them leads to a row
+pub starts-tell : (s t : List ℕ) (h : Header) (w : Walk) (test : ℕ → Bool) (r₀ r : List ℕ) → Started test (h .nodes) r₀ → Layers (Steps s t w false (h .edges)) (Starts r₀) r → (i : ℕ) (P : Type 0)
     → ((x : ℕ) → x < h .nodes → test x ≡ true → LeadsTo s t h w x i → P) → (P → (x : ℕ) × (x < h .nodes) × (test x ≡ true) × LeadsTo s t h w x i) → Tells (getD r i 0) P
-starts-tell s t h w test r₀ r st y i P f f′ = layers-tell (whole-layers s t w false (h .edges) (Starts r₀) r y) i P from to
+starts-tell s t h w test r₀ r st y i P f f′ = layers-tell y i P from to
   where
     from : (n : ℕ) → Reached (Steps s t w false (h .edges)) (Starts r₀) n i → P
     from n x =

@@ -4,7 +4,6 @@ use walk::Walk;
 ghost use mathlib.Core.Bool.{false};
 ghost use Prim.Native.Nat.{_<_, _≤_};
 ghost use lib.ListN.{length};
-ghost use Rattle.sheet.specs.Refusals.{_is_};
 ghost use Rattle.sheet.specs.Accepted.{WellFormed};
 ghost use Rattle.walk.specs.Arcs.{Arranged};
 ghost use Rattle.reach.specs.Found.{Puts};

@@ -1,5 +1,5 @@
 // Question 10 at an office: the rows that are redundant, each judged by a walk without it.
-use ask::Question;
+use question::Question;
 use sheet::Header;
 use walk::Walk;
 ghost use mathlib.Core.Path.{_≡_};
@@ -7,12 +7,11 @@ ghost use mathlib.Core.Bool.{false};
 ghost use Prim.Native.Nat.{suc, _/_, _%_, _<_};
 ghost use lib.ListN.{length};
 ghost use Rattle.sheet.specs.Limits.{maxEdges};
-ghost use Rattle.sheet.specs.Refusals.{_is_};
 ghost use Rattle.sheet.specs.Accepted.{WellFormed};
 ghost use Rattle.walk.specs.Arcs.{Arranged};
 ghost use Rattle.meaning.specs.Answers.{Says};
 ghost use Rattle.meaning.specs.Questions.{RedundantRow, RedundantAre};
-ghost use Rattle.ask.specs.Placed.{AtOffice};
+ghost use Rattle.question.specs.Checked.{AtOffice};
 ghost use Rattle.reach.specs.Found.{Finds};
 ghost use Rattle.redundant.specs.Pruned.{BothArranged, PastRow};
 

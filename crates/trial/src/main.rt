@@ -1,11 +1,11 @@
 // Puts any input to every public function, for a program outside: requests on standard input, a reply to each on standard output.
 // The trial program's page in docs/TRIAL.md has the form of both.
-use ask::Answer;
-use ask::Question;
 use join::Joined;
 use libc::STDIN_FILENO;
 use libc::STDOUT_FILENO;
 use opened::Which;
+use question::Answer;
+use question::Question;
 use sheet::Refusal;
 ghost use mathlib.Core.Path.{_≡_};
 ghost use Prim.Native.Nat.{_*_, _≤_};
@@ -100,7 +100,7 @@ fn ask_words(q: Request, sheet: &[u32], list: &[u32], out: &mut [u32]) -> Answer
         1 => ask::answer_at_office(sheet, question),
         2 => ask::joint_answer(sheet, question),
         3 => ask::witness(sheet, question, out),
-        _ => ask::is_path(sheet, question, list),
+        _ => claim::is_path(sheet, question, list),
     }
 }
 

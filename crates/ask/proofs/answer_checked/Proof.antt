@@ -3,8 +3,8 @@
 use Prim.Native.Nat.{ℕ}
 use mathlib.Core.Path.{refl, sym, subst, _∙_}
 use borrow.Author.Needs.{needs}
-use Rattle.ask.proofs.Deciding.{words-of}
-use Rattle.ask.proofs.Telling.{reply-refused, reply-told}
+use Rattle.sheet.proofs.Forming.{words-of}
+use Rattle.question.proofs.Telling.{reply-refused, reply-told}
 use Rattle.meaning.specs.Answers.{AnswerIs}
 use Rattle.sheet.specs.Named.{seenAt}
 use Rattle.ask.proofs.answer_checked.Statement.{statement}

@@ -4,8 +4,9 @@ use mathlib.Core.Bool.{true}
 use mathlib.Core.Path.{_≡_, refl, ap, subst}
 use native.Mathlib.Omega.{arith}
 use borrow.Author.Needs.{needs}
-use Rattle.ask.proofs.Deciding.{reach-says, walk-is, nodes-same}
-use Rattle.ask.specs.Asked.{sideOf}
+use Rattle.ask.proofs.Deciding.{reach-says, walk-is}
+use Rattle.sheet.proofs.Forming.{nodes-same}
+use Rattle.question.specs.Asked.{sideOf}
 use Rattle.paths.specs.Steps.{Layers}
 use Rattle.walk.specs.Arcs.{Steps}
 use Rattle.walk.specs.declared.Walk.{Walk}

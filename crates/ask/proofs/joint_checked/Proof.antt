@@ -3,10 +3,10 @@
 use mathlib.Core.Path.{refl, sym, _∙_}
 use native.Mathlib.Omega.{arith}
 use borrow.Author.Needs.{needs}
-use Rattle.ask.proofs.Deciding.{nodes-same}
+use Rattle.sheet.proofs.Forming.{nodes-same}
 use Rattle.ask.proofs.Jointly.{fault-rule, fault-known, joint-is}
 use Rattle.ask.proofs.Placing.{unfound-unknown}
-use Rattle.ask.proofs.Telling.{reply-refused, reply-told}
+use Rattle.question.proofs.Telling.{reply-refused, reply-told}
 use Rattle.ask.proofs.joint_checked.Statement.{statement}
 use Rattle.ask.proofs.joint_checked.Tie as tie
 

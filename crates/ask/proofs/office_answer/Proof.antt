@@ -2,7 +2,7 @@
 -- Assumes nothing.
 use mathlib.Core.Path.{sym, _∙_}
 use borrow.Author.Needs.{needs}
-use Rattle.ask.proofs.Deciding.{words-of, nodes-same}
+use Rattle.sheet.proofs.Forming.{words-of, nodes-same}
 use Rattle.ask.proofs.Placing.{unfound-unknown, placed-all, unknown-undetermined}
 use Rattle.ask.proofs.office_answer.Statement.{statement}
 use Rattle.ask.proofs.office_answer.Tie as tie

@@ -2,7 +2,8 @@
 -- Assumes nothing.
 use native.Mathlib.Omega.{arith}
 use borrow.Author.Needs.{needs}
-use Rattle.ask.proofs.Telling.{nodes-of, stand-made}
+use Rattle.sheet.proofs.Forming.{nodes-of}
+use Rattle.ask.proofs.Standing.{stand-made}
 use Rattle.ask.proofs.stand_at.Statement.{statement}
 use Rattle.ask.proofs.stand_at.Tie as tie
 

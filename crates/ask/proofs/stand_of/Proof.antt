@@ -3,7 +3,8 @@
 use mathlib.Core.Path.{sym, _∙_}
 use native.Mathlib.Omega.{arith}
 use borrow.Author.Needs.{needs}
-use Rattle.ask.proofs.Telling.{fits-office, stand-none}
+use Rattle.question.proofs.Telling.{fits-office}
+use Rattle.ask.proofs.Standing.{stand-none}
 use Rattle.ask.proofs.stand_of.Statement.{statement}
 use Rattle.ask.proofs.stand_of.Tie as tie
 

@@ -1,14 +1,14 @@
--- `ask::walk_for` meets its contract: kind 0 is a grant, any other a ban.
+-- `ask::walk_for` meets its contract: the right's kind is the side's.
 -- Assumes nothing.
-use Rattle.ask.proofs.Deciding.{side-grant, side-ban}
+use borrow.Author.Needs.{needs}
 use Rattle.ask.proofs.walk_for.Statement.{statement}
 use Rattle.ask.proofs.walk_for.Tie as tie
 
-returns : tie.Need-returns
-returns c = rw (side-grant _ (c .if1 .taken))
+right-of-requires : tie.Need-right-of-requires
+right-of-requires c κs = search needs
 
-returns-2 : tie.Need-returns-2
-returns-2 c = rw (side-ban _ (c .if1 .left))
+returns : tie.Need-returns
+returns c = rw (c .right-of .ensures)
 
 pub walk-for-spec : {M : Type 1} → statement M
-walk-for-spec = tie.close (tie.spec returns returns-2)
+walk-for-spec = tie.close (tie.spec right-of-requires returns)

@@ -2,7 +2,8 @@
 -- Assumes nothing.
 use mathlib.Core.Path.{refl}
 use borrow.Author.Needs.{needs}
-use Rattle.ask.proofs.Telling.{show-bad, show-good, opened-long, opened-room, opened-part}
+use Rattle.sheet.proofs.Forming.{passed-long, passed-header, passed-whole}
+use Rattle.question.proofs.Telling.{show-bad, show-good}
 use Rattle.ask.proofs.witness.Statement.{statement}
 use Rattle.ask.proofs.witness.Tie as tie
 
@@ -16,31 +17,19 @@ returns : tie.Need-returns
 returns c = show-bad _ _ _ _ _ _ _ (c .before .before .before .check .ensures) (c .before .if1 .taken) (c .refused .ensures) refl
 
 header-of-requires : tie.Need-header-of-requires
-header-of-requires c κs = opened-long _ _ (c .before .before .check .ensures) (c .if1 .left)
+header-of-requires c κs = passed-long _ _ _ (c .before .before .check .ensures) (c .if1 .left)
 
-cast-from : tie.Need-cast-from
-cast-from c = search needs
-
-mul-witness-checked : tie.Need-mul-witness-checked
-mul-witness-checked c = search needs
-
-sub-witness-checked : tie.Need-sub-witness-checked
-sub-witness-checked c = opened-room _ _ (c .before .before .before .before .check .ensures) (c .before .before .if1 .left) _ (c .before .header-of .ensures)
-
-part-witness-checked-start : tie.Need-part-witness-checked-start
-part-witness-checked-start c = opened-room _ _ (c .before .before .before .before .check .ensures) (c .before .before .if1 .left) _ (c .before .header-of .ensures)
-
-part-witness-checked-end : tie.Need-part-witness-checked-end
-part-witness-checked-end c = search needs
+edge-table-requires : tie.Need-edge-table-requires
+edge-table-requires c κs = passed-header _ _ _ (c .before .before .before .check .ensures) (c .before .if1 .left) _ (c .header-of .ensures)
 
 witness-checked-requires : tie.Need-witness-checked-requires
-witness-checked-requires c κs = opened-part _ _ (c .before .before .before .before .before .before .check .ensures) (c .before .before .before .before .if1 .left) _ (c .before .before .before .header-of .ensures)
+witness-checked-requires c κs = passed-whole _ _ _ (c .before .before .before .before .before .check .ensures) (c .before .before .before .if1 .left) _ (c .before .before .header-of .ensures) _ (c .before .edge-table .ensures)
 
 same-length : tie.Need-same-length
 same-length c = search needs
 
 returns-2 : tie.Need-returns-2
-returns-2 c = show-good _ _ _ _ _ _ _ (c .before .before .before .before .before .before .before .before .before .check .ensures) (c .before .before .before .before .before .before .before .if1 .left) (c .before .before .witness-checked .ensures)
+returns-2 c = show-good _ _ _ _ _ _ _ (c .before .before .before .before .before .before .before .before .check .ensures) (c .before .before .before .before .before .before .if1 .left) (c .before .before .witness-checked .ensures)
 
 pub witness-spec : {M : Type 1} → statement M
 witness-spec =
@@ -50,11 +39,7 @@ witness-spec =
     refused-requires
     returns
     header-of-requires
-    cast-from
-    mul-witness-checked
-    sub-witness-checked
-    part-witness-checked-start
-    part-witness-checked-end
+    edge-table-requires
     witness-checked-requires
     same-length
     returns-2)

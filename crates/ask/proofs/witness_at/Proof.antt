@@ -3,9 +3,9 @@
 use mathlib.Core.Path.{refl, ap}
 use native.Mathlib.Omega.{arith}
 use borrow.Author.Needs.{needs}
-use Rattle.ask.proofs.Deciding.{nodes-same}
+use Rattle.sheet.proofs.Forming.{nodes-same}
 use Rattle.ask.proofs.Showing.{measured-so, no-witness, first-long}
-use Rattle.ask.proofs.Telling.{show-missing, show-short, show-written}
+use Rattle.question.proofs.Telling.{show-missing, show-short, show-written}
 use Rattle.walk.specs.declared.Walk.{Walk}
 use Rattle.ask.proofs.witness_at.Statement.{statement}
 use Rattle.ask.proofs.witness_at.Tie as tie

@@ -2,8 +2,9 @@
 -- Assumes nothing.
 use mathlib.Core.Path.{refl, sym, _∙_}
 use borrow.Author.Needs.{needs}
-use Rattle.ask.proofs.Deciding.{words-of}
-use Rattle.ask.proofs.Telling.{show-refused, show-office, show-stands}
+use Rattle.sheet.proofs.Forming.{words-of}
+use Rattle.question.proofs.Telling.{show-refused, show-stands}
+use Rattle.ask.proofs.Standing.{show-office}
 use Rattle.ask.proofs.witness_checked.Statement.{statement}
 use Rattle.ask.proofs.witness_checked.Tie as tie
 

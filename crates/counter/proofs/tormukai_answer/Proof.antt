@@ -4,8 +4,8 @@ use Prim.Native.Nat.{ℕ}
 use mathlib.Core.List.{List}
 use borrow.Author.Needs.{needs}
 use mathlib.Core.Path.{_≡_}
-use Rattle.ask.specs.Asked.{askFault}
-use Rattle.ask.specs.Replies.{Replies}
+use Rattle.question.specs.Asked.{askFault}
+use Rattle.question.specs.Replies.{Replies}
 use Rattle.meaning.specs.Answers.{AnswerIs}
 use Rattle.sheet.specs.declared.Refusal.{Refusal}
 use Rattle.sheet.specs.Named.{seenAt}

@@ -4,8 +4,8 @@ use Prim.Native.Nat.{ℕ}
 use mathlib.Core.List.{List}
 use borrow.Author.Needs.{needs}
 use Rattle.sheet.specs.Rows.{headerOf}
-use Rattle.ask.specs.Asked.{jointFault}
-use Rattle.ask.specs.Replies.{Replies}
+use Rattle.question.specs.Asked.{jointFault}
+use Rattle.question.specs.Replies.{Replies}
 use Rattle.meaning.specs.Answers.{JointIs}
 use Rattle.sheet.specs.declared.Refusal.{Refusal}
 use Rattle.sheet.specs.Named.{seenAt}

@@ -7,8 +7,8 @@ use borrow.Author.Needs.{needs}
 use Rattle.sheet.specs.declared.Refusal.{Refusal}
 use Rattle.sheet.specs.Named.{seenAt}
 use Rattle.meaning.specs.Questions.{WitnessIs}
-use Rattle.ask.specs.Asked.{askFault, sideOf}
-use Rattle.ask.specs.Replies.{Shows}
+use Rattle.question.specs.Asked.{askFault, sideOf}
+use Rattle.question.specs.Replies.{Shows}
 use Rattle.counter.specs.Filed.{asking, InBytes}
 use Rattle.counter.proofs.Reading.{show-unread, of-file}
 use Rattle.counter.proofs.tormukai_witness.Statement.{statement}

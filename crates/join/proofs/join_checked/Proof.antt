@@ -83,7 +83,7 @@ returns : tie.Need-returns
 returns c = let P = c .before .before .before .before .before .before .before .before .before .before .before .before .before .before .before .before .before .before .before .pre in
     let places = c .before .before .before .before .before .before .before .before .before .places-of .ensures in
     let count = c .before .before .before .before .count-rows .ensures in
-    joins-refused _ _ _ _ _ _
+    joins-refused _ _ _ _ _ _ _
     (too-much-is _ _ _ _ _ _ (c .before .before .before .too-much .ensures) (nodes-union _ _ (P .0) _ _ (P .1) _ places) (edges-union _ _ (P .0) _ _ (P .1) _ places _ count) (c .before .before .if1 .taken))
     (c .before .before .if1 .taken) (c .refused .ensures ∙ ap refusedBy (c .before .about .ensures))
 

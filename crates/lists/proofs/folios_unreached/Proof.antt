@@ -1,29 +1,10 @@
 -- `lists::folios_unreached` meets its contract: the folios that the walk from all persons does not number are those out of reach.
 -- Assumes nothing.
 use Rattle.lists.proofs.Unreached.{unreached-found}
-use Rattle.walk.proofs.Starting.{blank-all}
 use mathlib.Core.Path.{refl}
 use borrow.Author.Needs.{needs}
 use Rattle.lists.proofs.folios_unreached.Statement.{statement}
 use Rattle.lists.proofs.folios_unreached.Tie as tie
-
-slice-aggregate-arrange : tie.Need-slice-aggregate-arrange
-slice-aggregate-arrange c = search needs
-
-slice-aggregate-arrange-2 : tie.Need-slice-aggregate-arrange-2
-slice-aggregate-arrange-2 c = search needs
-
-arrange-requires : tie.Need-arrange-requires
-arrange-requires c κs =
-    let S = c .before .before .before .before .before in
-    let f = S .pre .0 .formed in
-    (f, S .pre .0 .mark-some, f .nodes .header .nodes, f .nodes .header .edges, blank-all .none)
-
-slice-aggregate-persons-lead : tie.Need-slice-aggregate-persons-lead
-slice-aggregate-persons-lead c = search needs
-
-slice-aggregate-persons-lead-2 : tie.Need-slice-aggregate-persons-lead-2
-slice-aggregate-persons-lead-2 c = search needs
 
 persons-lead-requires : tie.Need-persons-lead-requires
 persons-lead-requires c κs = search needs
@@ -36,18 +17,13 @@ same-length c = search needs
 
 returns : tie.Need-returns
 returns c =
-    let S = c .before .before .before .before .before .before .before .before .before .before .before .before .before .before .before in
+    let S = c .before .before .before .before .before .before .before .before in
     unreached-found _ _ _ _ _ (S .pre .0) _ refl _ (c .before .before .before .before .persons-lead .ensures) (c .before .before .numbers-of .ensures)
 
 pub folios-unreached-spec : {M : Type 1} → statement M
 folios-unreached-spec =
     tie.close
     (tie.spec
-    slice-aggregate-arrange
-    slice-aggregate-arrange-2
-    arrange-requires
-    slice-aggregate-persons-lead
-    slice-aggregate-persons-lead-2
     persons-lead-requires
     numbers-of-requires
     same-length

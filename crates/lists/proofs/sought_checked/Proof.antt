@@ -1,10 +1,9 @@
 -- `lists::sought_checked` meets its contract: the office's number, then what the question refuses, then what it finds.
 -- Assumes nothing.
 use Rattle.lists.proofs.Picking.{fault-office}
-use Rattle.ask.proofs.Telling.{show-refused, show-stands, fits-office}
+use Rattle.question.proofs.Telling.{show-refused, show-stands, fits-office}
 use mathlib.Core.Path.{refl, sym, _∙_}
 use native.Mathlib.Omega.{arith}
-use Prim.Native.Nat.{_-_}
 use borrow.Author.Needs.{needs}
 use Rattle.lists.proofs.sought_checked.Statement.{statement}
 use Rattle.lists.proofs.sought_checked.Tie as tie

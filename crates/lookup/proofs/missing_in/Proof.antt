@@ -1,6 +1,6 @@
 -- `lookup::missing_in` meets its contract: a sheet has the identity exactly if its place is before the end.
 -- Assumes nothing.
-use Rattle.lookup.proofs.Looking.{stands-row, has-row, has-none, found-first, found-second, found-neither}
+use Rattle.lookup.proofs.Looking.{stands-row, identity-in, has-none, found-first, found-second, found-neither}
 use borrow.Author.Needs.{needs}
 use Rattle.lookup.proofs.missing_in.Statement.{statement}
 use Rattle.lookup.proofs.missing_in.Tie as tie
@@ -12,7 +12,7 @@ returns : tie.Need-returns
 returns c =
     let S = c .before .before .before .before in
     let r = stands-row _ _ _ (S .pre .0) (c .before .place-in .ensures) (c .if1 .taken) in
-    found-first _ _ _ (has-row _ _ (r .row) (r .inside) (r .names))
+    found-first _ _ _ (identity-in _ _ (r .row) (r .inside) (r .names))
 
 place-in-requires-2 : tie.Need-place-in-requires-2
 place-in-requires-2 c κs = search needs
@@ -21,7 +21,7 @@ returns-2 : tie.Need-returns-2
 returns-2 c =
     let S = c .before .before .before .before .before .before in
     let r = stands-row _ _ _ (S .pre .1) (c .before .place-in2 .ensures) (c .if2 .taken) in
-    found-second _ _ _ (has-row _ _ (r .row) (r .inside) (r .names))
+    found-second _ _ _ (identity-in _ _ (r .row) (r .inside) (r .names))
 
 returns-3 : tie.Need-returns-3
 returns-3 c =

@@ -2,7 +2,8 @@
 -- Assumes nothing.
 use borrow.Author.Needs.{needs}
 use Rattle.meaning.specs.Paths.{grant, ban}
-use Rattle.redundant.proofs.Pruning.{past-by, side-four, side-else}
+use Rattle.redundant.proofs.Taking.{side-four, side-else}
+use Rattle.redundant.proofs.Pruning.{past-by}
 use Rattle.redundant.proofs.past_row.Statement.{statement}
 use Rattle.redundant.proofs.past_row.Tie as tie
 

@@ -45,12 +45,12 @@ use denote.Signature.Struct.{makes}
 use Rattle.opened.specs.Asking.{questionOf, Answers}
 use Rattle.opened.specs.declared.Opened.{Opened}
 use Rattle.opened.specs.declared.Which.{Which}
-use Rattle.ask.specs.declared.Question.{Question}
-use Rattle.ask.specs.declared.Answer.{Answer}
-use Rattle.ask.proofs.Question as Q
-use Rattle.ask.proofs.Question.Laws as Q′
-use Rattle.ask.proofs.Answer as R
-use Rattle.ask.proofs.Answer.Laws as R′
+use Rattle.question.specs.declared.Question.{Question}
+use Rattle.question.specs.declared.Answer.{Answer}
+use Rattle.question.proofs.Question as Q
+use Rattle.question.proofs.Question.Laws as Q′
+use Rattle.question.proofs.Answer as R
+use Rattle.question.proofs.Answer.Laws as R′
 use Rattle.opened.proofs.Which as E
 use Rattle.opened.proofs.Which.Laws as E′
 use Rattle.opened.proofs.Opened as T

@@ -41,20 +41,20 @@ use denote.Triple.Walked.{says, Stays, stay-none, stay-none-slice, walkOf, goes-
 use denote.Exit.{yes}
 use denote.Triple.Clauses.{ensured, lasts}
 use denote.Signature.Struct.{makes}
-use Rattle.ask.specs.Promises.{TellsPath}
+use Rattle.claim.specs.Promises.{TellsPath}
 use Rattle.opened.specs.declared.Opened.{Opened}
-use Rattle.ask.specs.declared.Question.{Question}
-use Rattle.ask.specs.declared.Answer.{Answer}
-use Rattle.ask.proofs.Question as Q
-use Rattle.ask.proofs.Question.Laws as Q′
-use Rattle.ask.proofs.Answer as R
-use Rattle.ask.proofs.Answer.Laws as R′
+use Rattle.question.specs.declared.Question.{Question}
+use Rattle.question.specs.declared.Answer.{Answer}
+use Rattle.question.proofs.Question as Q
+use Rattle.question.proofs.Question.Laws as Q′
+use Rattle.question.proofs.Answer as R
+use Rattle.question.proofs.Answer.Laws as R′
 use Rattle.opened.proofs.Opened as T
 use Rattle.opened.proofs.Opened.Laws as T′
-use Rattle.ask.proofs.is_path as callee
-use Rattle.ask.proofs.is_path.Symbol as callee-def
-use Rattle.ask.proofs.is_path.Symbol.{name as #ask·is-path}
-use Rattle.ask.proofs.is_path.Met as callee-thm
+use Rattle.claim.proofs.is_path as callee
+use Rattle.claim.proofs.is_path.Symbol as callee-def
+use Rattle.claim.proofs.is_path.Symbol.{name as #claim·is-path}
+use Rattle.claim.proofs.is_path.Met as callee-thm
 use Rattle.opened.proofs.Opened.is_path.Key.{name as #opened·is-path}
 use Rattle.opened.proofs.Opened.is_path as is-path
 use Rattle.opened.proofs.Opened.is_path.Statement as stated
@@ -142,7 +142,7 @@ module _ {M : Type 1} (𝓤 : URA M) (H : Heap 𝓤) (A : Atoms 𝓤) (W : Given
       suffices ! _ (ends-at 𝓤 H A is-path.ended stayed (is-path.clauses 𝓤 H A mem run) W ((κs, (q, (q′, tt)), tt, (d, (p, (x, tt))), at), tt) u n (tt, (tt, (tt, tt))) (tt, (tt, (tt, tt)))) $ says ! e $
       move ! (1 ∷ []) $ frame ! $ nothing ! $ move ! (2 ∷ 0 ∷ []) $ fjoin ! $ owned ! Q.the-row (Is Q.the-row) (LL.makes Q.the-type Q′.the-plain 𝓤 H A) p _ okp $ fjoin ! $ move ! (2 ∷ 0 ∷ []) $ fjoin ! $ frame ! $ done !
 
-  module _ (C : Calls 𝓤 H) (Λ : Loops 𝓤 H) (fm : FmC 𝓤 H (W .laws) C) (known : Triple 𝓤 (C #ask·is-path) (Callee 𝓤 H A mem run)) where
+  module _ (C : Calls 𝓤 H) (Λ : Loops 𝓤 H) (fm : FmC 𝓤 H (W .laws) C) (known : Triple 𝓤 (C #claim·is-path) (Callee 𝓤 H A mem run)) where
     walk : Holds (hasTy (T′.mir (named 0)) mach) × WT mach → Is (ShrSlice (named 1) κ′ u32) x (s ∷ []) → ent 𝓤 (onEntry 𝓤 H A is-path.signature κs (q, (q′, tt)) (d, (p, (x, tt))) at) (WpFn 𝓤 H C Λ code.function (mach ∷ LL.val Q.the-type Q′.the-laws p ∷ s ∷ []) Post)
     walk wt isx =
         qed W (raw (onEntry 𝓤 H A is-path.signature κs (q, (q′, tt)) (d, (p, (x, tt))) at) ∷ []) ∵ enter ! C Λ code.function (mach ∷ LL.val Q.the-type Q′.the-laws p ∷ s ∷ []) _ $
@@ -160,13 +160,13 @@ module _ {M : Type 1} (𝓤 : URA M) (H : Heap 𝓤) (A : Atoms 𝓤) (W : Given
         move ! (11 ∷ 12 ∷ []) $ free1 ! $ move ! (9 ∷ 10 ∷ []) $ free1 ! $ move ! (7 ∷ 8 ∷ []) $ free1 ! $ move ! (5 ∷ 6 ∷ []) $ free1 ! $ move ! (3 ∷ 4 ∷ []) $ free1 ! $ free0 ! $ move ! (2 ∷ []) $ split ! $ move ! (2 ∷ 3 ∷ []) $ by ! (exits n u e))))))))))
 
 module _ {M : Type 1} (𝓤 : URA M) (H : Heap 𝓤) (A : Atoms 𝓤) (W : Given 𝓤 H A) (mem : Memory → SProp 𝓤) (run : Routine → Fun 𝓤) where
-  is-path-walks : (C : Calls 𝓤 H) (Λ : Loops 𝓤 H) → FmC 𝓤 H (W .laws) C → Triple 𝓤 (C #ask·is-path) (Callee 𝓤 H A mem run)
+  is-path-walks : (C : Calls 𝓤 H) (Λ : Loops 𝓤 H) → FmC 𝓤 H (W .laws) C → Triple 𝓤 (C #claim·is-path) (Callee 𝓤 H A mem run)
       → Walks 𝓤 H A is-path.ended stayed (WpFn 𝓤 H C Λ code.function) (is-path.clauses 𝓤 H A mem run)
   is-path-walks C Λ fm known = walked 𝓤 H A is-path.ended stayed (is-path.clauses 𝓤 H A mem run) (WpFn 𝓤 H C Λ code.function) (λ κs. (LL.vals (D κs) (L κs), (LL.vals Q.the-type Q′.the-laws, (slice-vals, tt)))) (λ κs. (LL.tells (D κs) (L κs), (LL.tells Q.the-type Q′.the-laws, (shr-slice-tells (named 1) (κs .1 .0) u32, tt))))
       (λ κs qs bounds a g are. via 𝓤 _ (fst∗ 𝓤 _ (emp 𝓤)) (walk 𝓤 H A W mem run (κs .0) (κs .1 .0) (qs .0) (qs .1 .0) (a .0) (a .1 .0) (a .1 .1 .0) (are .1 .0) C Λ fm known (LL.lawful (D κs) (L κs) 𝓤 H A W .typed (a .0) _ (are .0) .0) (are .1 .1 .0)))
 
 is-path-meets : {M : Type 1} (𝓤 : URA M) (H : Heap 𝓤) (A : Atoms 𝓤) (W : Given 𝓤 H A) (mem : Memory → SProp 𝓤) (run : Routine → Fun 𝓤) (𝓣 : Tables 𝓤 H)
-    → Triple 𝓤 (𝓣 .C #ask·is-path) (Callee 𝓤 H A mem run)
+    → Triple 𝓤 (𝓣 .C #claim·is-path) (Callee 𝓤 H A mem run)
     → Meets 𝓤 H A is-path.signature (WpFn 𝓤 H (𝓣 .C) (𝓣 .Λ) code.function) (is-path.spec 𝓤 H A mem run)
 is-path-meets 𝓤 H A W mem run 𝓣 known = walk-meets 𝓤 H A is-path.ended stayed W (goes-none 𝓤 H A W 2 B yes (λ κs x f. refl), (goes-none 𝓤 H A W 2 (λ _. Q.the-row) yes (λ κs x f. refl), (goes-none-slice 𝓤 H A W 2 (1 ∷ []) tt (plain (λ _. u32)) yes, tt))) (is-path.clauses 𝓤 H A mem run) (WpFn 𝓤 H (𝓣 .C) (𝓣 .Λ) code.function) (WpFn-mono 𝓤 H (W .laws) 𝓣 code.function)
     (is-path-walks 𝓤 H A W mem run (𝓣 .C) (𝓣 .Λ) (fmOf 𝓤 H (W .laws) 𝓣) known)
@@ -177,4 +177,4 @@ is-path-spec 𝓤 H 𝓜 𝓖 𝓡 =
     entered 𝓤 H (tripleOf 𝓤 H (𝓖 .A) is-path.signature (is-path.spec 𝓤 H (𝓖 .A) (𝓜 .mem) (𝓡 .run)))
     (tables 𝓤 H 𝓜 𝓡 code.env .C) (tables 𝓤 H 𝓜 𝓡 code.env .Λ) #opened·is-path code.function (code.unfolded 𝓤 H 𝓜 𝓡)
     (is-path-meets 𝓤 H (𝓖 .A) (givenOf 𝓤 H 𝓜 𝓖) (𝓜 .mem) (𝓡 .run) (tablesOf 𝓤 H 𝓜 (tables 𝓤 H 𝓜 𝓡 code.env))
-    (cited 𝓤 H (Callee 𝓤 H (𝓖 .A) (𝓜 .mem) (𝓡 .run)) 𝓜 𝓡 code.env #ask·is-path callee-def.routine code.calls-ask·is-path (callee-thm.met 𝓤 H 𝓜 𝓖 𝓡)))
+    (cited 𝓤 H (Callee 𝓤 H (𝓖 .A) (𝓜 .mem) (𝓡 .run)) 𝓜 𝓡 code.env #claim·is-path callee-def.routine code.calls-claim·is-path (callee-thm.met 𝓤 H 𝓜 𝓖 𝓡)))

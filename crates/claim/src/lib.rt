@@ -1,0 +1,259 @@
+// Question 4: whether a list of words, claimed to be a grant or ban path, is one.
+use question::Answer;
+use question::Question;
+use sheet::Header;
+use sheet::Node;
+ghost use mathlib.Core.Path.{_≡_};
+ghost use Prim.Native.Nat.{suc, _+_, _*_, _<_, _≤_};
+ghost use lib.ListN.{length, getD};
+ghost use Rattle.tables.specs.Count.{numberOf};
+ghost use Rattle.tables.specs.Key.{relation};
+ghost use Rattle.sheet.specs.Rows.{headerOf, nodeKey};
+ghost use Rattle.sheet.specs.Accepted.{WellFormed};
+ghost use Rattle.sheet.specs.Named.{seenAt};
+ghost use Rattle.meaning.specs.Paths.{member, step, carries, isPath};
+ghost use Rattle.question.specs.Asked.{badOffice, plain, sideOf};
+ghost use Rattle.question.specs.Replies.{Replies};
+ghost use Rattle.question.specs.Checked.{AtOffice};
+ghost use Rattle.claim.specs.Listed.{rowOf, hasSecond, framed, wayFrom, goesOn};
+ghost use Rattle.claim.specs.Promises.{TellsPath};
+
+// Whether an edge row has the kind and the mark and runs from one identity to the other.
+fn is_row_of(
+    sheet: &[u32],
+    edges: &[u32],
+    h: Header,
+    mark: u32,
+    kind: u32,
+    a: Node,
+    b: Node,
+    j: usize,
+) -> bool
+    requires { ⌜ WellFormed (now sheet) (now edges) h × (0 < mark) × (j < h .edges) ⌝ }
+    ensures { λ r. ⌜ r ≡ rowOf (now (sheet .entry)) (now (edges .entry)) mark kind a b j ⌝ }
+{
+    let e = sheet::edge_at(edges, h, j);
+    let from = sheet::node_at(sheet, e.from as usize);
+    let to = sheet::node_at(sheet, e.to as usize);
+    (e.kind == kind)
+        & ((e.offices / mark % 2 == 1) & (sheet::same_node(from, a) & sheet::same_node(to, b)))
+}
+
+// Whether office k + 1 has the relation of a kind between two identities.
+fn is_related(
+    sheet: &[u32],
+    edges: &[u32],
+    h: Header,
+    k: u32,
+    mark: u32,
+    kind: u32,
+    a: Node,
+    b: Node,
+) -> bool
+    requires { ⌜ AtOffice (now sheet) (now edges) h k mark ⌝ }
+    ensures { λ r. ⌜ r ≡ seenAt (now (sheet .entry)) (suc k) .edge (relation kind (nodeKey a) (nodeKey b)) ⌝ }
+{
+    let n = h.edges as usize;
+    let mut j: usize = 0;
+    while j < n {
+        if is_row_of(sheet, edges, h, mark, kind, a, b, j) {
+            return true;
+        }
+        j += 1;
+    }
+    false
+}
+
+// Whether the person is a member of the category.
+fn is_member(sheet: &[u32], edges: &[u32], h: Header, k: u32, mark: u32, p: u32, c: u32) -> bool
+    requires { ⌜ AtOffice (now sheet) (now edges) h k mark ⌝ }
+    ensures { λ r. ⌜ r ≡ member (seenAt (now (sheet .entry)) (suc k)) p c ⌝ }
+{
+    let a = sheet::named(1, p, 0);
+    let b = sheet::named(2, c, 0);
+    is_related(sheet, edges, h, k, mark, 1, a, b)
+}
+
+// Whether a side's paths lead from the one category to the other.
+fn is_step(
+    sheet: &[u32],
+    edges: &[u32],
+    h: Header,
+    k: u32,
+    mark: u32,
+    kind: u32,
+    c: u32,
+    d: u32,
+) -> bool
+    requires { ⌜ AtOffice (now sheet) (now edges) h k mark ⌝ }
+    ensures { λ r. ⌜ r ≡ step (seenAt (now (sheet .entry)) (suc k)) (sideOf kind) c d ⌝ }
+{
+    let a = sheet::named(2, c, 0);
+    let b = sheet::named(2, d, 0);
+    if kind == 0 {
+        return is_related(sheet, edges, h, k, mark, 2, a, b);
+    }
+    is_related(sheet, edges, h, k, mark, 2, b, a)
+}
+
+// Whether a category has the side's right on the question's deed in the variant, which applies to the folio.
+fn is_carried(
+    sheet: &[u32],
+    edges: &[u32],
+    h: Header,
+    k: u32,
+    mark: u32,
+    q: Question,
+    v: u32,
+    c: u32,
+) -> bool
+    requires { ⌜ AtOffice (now sheet) (now edges) h k mark ⌝ }
+    ensures { λ r. ⌜ r ≡ carries (seenAt (now (sheet .entry)) (suc k)) (sideOf (q .kind)) (q .deed) v (q .folio) c ⌝ }
+{
+    let right = question::right_of(q.kind);
+    let a = sheet::named(2, c, 0);
+    let b = sheet::named(3, q.deed, v);
+    let t = sheet::named(4, q.folio, 0);
+    is_related(sheet, edges, h, k, mark, right, a, b)
+        & is_related(sheet, edges, h, k, mark, 5, b, t)
+}
+
+// Whether one of every second word, m of them from a place on, is c, or is not c where `same` is false.
+fn has_second(list: &[u32], from: usize, m: usize, c: u32, same: bool) -> bool
+    requires { ⌜ from + 2 * m ≤ length (now list) ⌝ }
+    ensures { λ r. ⌜ r ≡ hasSecond (now (list .entry)) c same from m ⌝ }
+{
+    let mut at = from;
+    let mut left = m;
+    while 0 < left {
+        if (c == list[at]) == same {
+            return true;
+        }
+        at += 2;
+        left -= 1;
+    }
+    false
+}
+
+// Whether the words before and behind the categories, m of them after the first, are the question's person, deed and folio.
+fn is_framed(list: &[u32], m: usize, q: Question) -> bool
+    requires { ⌜ length (now list) ≡ 8 + 2 * m ⌝ }
+    ensures { λ r. ⌜ r ≡ framed (now (list .entry)) m (q .person) (q .deed) (q .folio) ⌝ }
+{
+    (list[0] == q.person)
+        & ((list[1] == 0)
+            & ((list[4 + 2 * m] == q.deed)
+                & ((list[6 + 2 * m] == q.folio) & (list[7 + 2 * m] == 0))))
+}
+
+// Whether the category at a place leads to the next and is none of the m after it.
+fn is_onward(
+    sheet: &[u32],
+    edges: &[u32],
+    h: Header,
+    k: u32,
+    mark: u32,
+    kind: u32,
+    list: &[u32],
+    at: usize,
+    m: usize,
+) -> bool
+    requires { ⌜ AtOffice (now sheet) (now edges) h k mark × (0 < m) × (at + 2 + 2 * m ≤ length (now list)) ⌝ }
+    ensures { λ r. ⌜ r ≡ goesOn (seenAt (now (sheet .entry)) (suc k)) (sideOf kind) (now (list .entry)) at m ⌝ }
+{
+    let c = list[at];
+    let d = list[at + 2];
+    if has_second(list, at + 2, m, c, true) {
+        return false;
+    }
+    is_step(sheet, edges, h, k, mark, kind, c, d)
+}
+
+// Whether the first category leads by the m after it, all distinct, to one with the right. The way is tried from its end, so that a list of any length costs no more turns than there are categories.
+fn is_way(
+    sheet: &[u32],
+    edges: &[u32],
+    h: Header,
+    k: u32,
+    mark: u32,
+    q: Question,
+    list: &[u32],
+    m: usize,
+) -> bool
+    requires { ⌜ AtOffice (now sheet) (now edges) h k mark × (length (now list) ≡ 8 + 2 * m) ⌝ }
+    ensures { λ r. ⌜ r ≡ wayFrom (seenAt (now (sheet .entry)) (suc k)) (sideOf (q .kind)) (q .deed) (getD (now (list .entry)) (5 + 2 * m) 0) (q .folio) (now (list .entry)) 2 m ⌝ }
+{
+    let v = list[5 + 2 * m];
+    let c = list[2 + 2 * m];
+    if !is_carried(sheet, edges, h, k, mark, q, v, c) {
+        return false;
+    }
+    let mut n: usize = 0;
+    while n < m {
+        let at = 2 * (m - n);
+        n += 1;
+        if !is_onward(sheet, edges, h, k, mark, q.kind, list, at, n) {
+            return false;
+        }
+    }
+    true
+}
+
+// Whether the words are some path of office k + 1.
+fn is_path_at(
+    sheet: &[u32],
+    edges: &[u32],
+    h: Header,
+    k: u32,
+    mark: u32,
+    q: Question,
+    list: &[u32],
+) -> bool
+    requires { ⌜ AtOffice (now sheet) (now edges) h k mark ⌝ }
+    ensures { λ r. ⌜ r ≡ isPath (seenAt (now (sheet .entry)) (suc k)) (sideOf (q .kind)) (q .person) (q .deed) (q .folio) (now (list .entry)) ⌝ }
+{
+    let n = list.len();
+    if (n < 8) | (n % 2 == 1) {
+        return false;
+    }
+    let m = (n - 8) / 2;
+    if !is_framed(list, m, q) {
+        return false;
+    }
+    if has_second(list, 3, m + 1, 0, false) {
+        return false;
+    }
+    if !is_member(sheet, edges, h, k, mark, q.person, list[2]) {
+        return false;
+    }
+    is_way(sheet, edges, h, k, mark, q, list, m)
+}
+
+// Question 4 on a sheet that was checked.
+fn is_path_checked(sheet: &[u32], edges: &[u32], h: Header, q: Question, list: &[u32]) -> Answer
+    requires { ⌜ WellFormed (now sheet) (now edges) h ⌝ }
+    ensures { λ a. ⌜ Replies (plain (badOffice (headerOf (now (sheet .entry))) (q .office))) (λ value count. (value ≡ numberOf (isPath (seenAt (now (sheet .entry)) (q .office)) (sideOf (q .kind)) (q .person) (q .deed) (q .folio) (now (list .entry)))) × (count ≡ 0)) a ⌝ }
+{
+    let n = question::bad_office(h, q.office);
+    if n != 0 {
+        return question::refused_by(n);
+    }
+    let k = q.office - 1;
+    let mark = question::mark_of(k);
+    if is_path_at(sheet, edges, h, k, mark, q, list) {
+        return question::told(1, 0);
+    }
+    question::told(0, 0)
+}
+
+// Question 4, whether a list of words is some grant or ban path: 1 yes, 0 no, in `value`.
+pub fn is_path(sheet: &[u32], q: Question, list: &[u32]) -> Answer
+    ensures { λ a. ⌜ TellsPath (now (sheet .entry)) q (now (list .entry)) a ⌝ }
+{
+    let r = verdict::check(sheet);
+    if r.number != 0 {
+        return question::refused(r);
+    }
+    let h = sheet::header_of(sheet);
+    is_path_checked(sheet, sheet::edge_table(sheet, h), h, q, list)
+}

@@ -1,0 +1,62 @@
+-- What questions 1 to 4 refuse, in the table's order.
+-- Assumes nothing.
+use Prim.Native.Nat.{ℕ, zero, suc, _<_, _≤_}
+use mathlib.Core.Path.{_≡_}
+use mathlib.Core.Bool.{Bool, true, false, not, _&&_, _||_}
+use mathlib.Core.List.{List}
+use Rattle.tables.specs.Count.{someRow}
+use Rattle.tables.specs.Marks.{marked}
+use Rattle.sheet.specs.declared.Refusal.{Refusal}
+use Rattle.sheet.specs.declared.Header.{Header}
+use Rattle.sheet.specs.Refusals.{_is_, _below_, _when_otherwise_, _orElse_, none, refuse, _then_}
+use Rattle.sheet.specs.Rows.{headerOf, nodeAt}
+use Rattle.sheet.specs.Verdict.{verdict}
+use Rattle.meaning.specs.Paths.{Side, grant, ban}
+use Rattle.question.specs.declared.Question.{Question}
+
+-- kind 0 asks for a grant and any other for a ban
+unfoldable pub sideOf : ℕ → Side
+sideOf zero = grant
+sideOf (suc k) = ban
+
+-- node row i has the type and the number, and the office's mark, or any where `any` says so
+unfoldable pub stands : List ℕ → Bool → ℕ → ℕ → ℕ → ℕ → Bool
+stands s any office class number i = nodeAt s i .class is class && (nodeAt s i .number is number && (any || marked (nodeAt s i .offices) office))
+
+-- there is a row of this type and number marked with the office; or, for a joint answer, with any office
+unfoldable pub known : List ℕ → Bool → ℕ → ℕ → ℕ → Bool
+known s any office class number = someRow (stands s any office class number) (headerOf s .nodes)
+
+-- 21, 22, 23 unknown person, deed, folio
+unfoldable pub unknown : List ℕ → Bool → ℕ → Question → ℕ
+unknown s any office q =
+    21 when not (known s any office 1 (q .person)) otherwise
+    22 when not (known s any office 3 (q .deed)) otherwise
+    23 when not (known s any office 4 (q .folio)) otherwise
+    0
+
+-- 20 office number not 1 to the count
+unfoldable pub badOffice : Header → ℕ → ℕ
+badOffice h office = 20 when office below 1 || h .offices below office otherwise 0
+
+-- 20, then the unknown to the office: questions 1 and 3
+unfoldable pub askFault : List ℕ → Question → ℕ
+askFault s q = badOffice (headerOf s) (q .office) orElse unknown s false (q .office) q
+
+-- 27 rule number, then the unknown to any office, whichever is named: question 2
+unfoldable pub jointFault : List ℕ → Question → ℕ
+jointFault s q = 27 when q .rule below 1 || 3 below q .rule otherwise unknown s true 1 q
+
+-- a number at place 0, 0
+abbrev pub plain : ℕ → Refusal
+plain k = refuse k 0 0 none
+
+-- the sheet's own refusal, then the question's
+unfoldable pub afterSheet : List ℕ → ℕ → Refusal
+afterSheet s k = verdict 1 s then plain k
+
+-- the first row below n that passes, or n
+pub record FirstStanding (f : ℕ → Bool) (n r : ℕ) : Type 0 where
+  pub most : r ≤ n
+  pub before : (i : ℕ) → i < r → f i ≡ false
+  pub found : r < n → f r ≡ true

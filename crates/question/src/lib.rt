@@ -1,0 +1,124 @@
+// What a question is, what it is refused by for its office and identities, and what every reply is made of.
+use sheet::Header;
+use sheet::Node;
+use sheet::Refusal;
+ghost use mathlib.Core.Path.{_≡_};
+ghost use mathlib.Core.Bool.{_&&_, _||_};
+ghost use Prim.Native.Nat.{suc, _/_, _%_, _^_, _<_};
+ghost use Rattle.sheet.specs.Limits.{maxOffices};
+ghost use Rattle.sheet.specs.Refusals.{_is_};
+ghost use Rattle.sheet.specs.Accepted.{NodesFormed};
+ghost use Rattle.meaning.specs.Paths.{rightKind};
+ghost use Rattle.question.specs.Asked.{FirstStanding, stands, badOffice, sideOf};
+ghost use Rattle.question.specs.Replies.{refusedBy, tells};
+
+// What is asked. Each question looks at the numbers that it names: office or rule, kind, 0 for a grant and any other for a ban, and `other` where it names two deeds.
+pub struct Question {
+    pub office: u32,
+    pub rule: u32,
+    pub kind: u32,
+    pub person: u32,
+    pub category: u32,
+    pub deed: u32,
+    pub other: u32,
+    pub folio: u32,
+}
+
+// A refusal's number and place, or number 0 with what the question tells.
+#[repr(C)]
+pub struct Answer {
+    pub number: u32,
+    pub sheet: u32,
+    pub row: u32,
+    pub value: u32,
+    pub count: u32,
+}
+
+// Whether a node row has the type and the number, and the mark, or any where `any` says so.
+fn is_standing(r: Node, any: bool, mark: u32, class: u32, number: u32) -> bool
+    requires { ⌜ 0 < mark ⌝ }
+    ensures { λ b. ⌜ b ≡ ((r .class is class) && ((r .number is number) && (any || ((r .offices / mark % 2) is 1)))) ⌝ }
+{
+    (r.class == class) & ((r.number == number) & (any | (r.offices / mark % 2 == 1)))
+}
+
+// The first node row of the type and the number that office k + 1 has, or any office where `any` says so; the node count where there is none.
+pub fn seek(sheet: &[u32], h: Header, any: bool, k: u32, mark: u32, class: u32, number: u32) -> u32
+    requires { ⌜ NodesFormed (now sheet) h × (mark ≡ 2 ^ k) × (0 < mark) ⌝ }
+    ensures { λ r. ⌜ FirstStanding (stands (now (sheet .entry)) any (suc k) class number) (h .nodes) r ⌝ }
+{
+    let n = h.nodes;
+    let mut i: u32 = 0;
+    while i < n {
+        let r = sheet::node_at(sheet, i as usize);
+        if is_standing(r, any, mark, class, number) {
+            return i;
+        }
+        i += 1;
+    }
+    n
+}
+
+// The mark of office k + 1.
+pub fn mark_of(k: u32) -> u32
+    requires { ⌜ k < maxOffices ⌝ }
+    ensures { λ r. ⌜ (r ≡ 2 ^ k) × (0 < r) ⌝ }
+{
+    1u32 << k
+}
+
+// 20 where there is no such office.
+pub fn bad_office(h: Header, office: u32) -> u32
+    ensures { λ r. ⌜ r ≡ badOffice h office ⌝ }
+{
+    if (office < 1) | (h.offices < office) {
+        return 20;
+    }
+    0
+}
+
+// The kind of the edges that give a side's right: 3 for a grant, 4 for a ban.
+pub fn right_of(kind: u32) -> u32
+    ensures { λ r. ⌜ r ≡ rightKind (sideOf kind) ⌝ }
+{
+    if kind == 0 { 3 } else { 4 }
+}
+
+// A refusal as an answer.
+pub fn refused(r: Refusal) -> Answer
+    ensures { λ a. ⌜ a ≡ refusedBy r ⌝ }
+{
+    Answer {
+        number: r.number,
+        sheet: r.sheet,
+        row: r.row,
+        value: 0,
+        count: 0,
+    }
+}
+
+// A refusal at place 0, 0 as an answer.
+pub fn refused_by(number: u32) -> Answer
+    ensures { λ a. ⌜ a ≡ refusedBy (record { number = number; sheet = 0; row = 0 }) ⌝ }
+{
+    Answer {
+        number: number,
+        sheet: 0,
+        row: 0,
+        value: 0,
+        count: 0,
+    }
+}
+
+// What a question tells, as an answer.
+pub fn told(value: u32, count: u32) -> Answer
+    ensures { λ a. ⌜ a ≡ tells value count ⌝ }
+{
+    Answer {
+        number: 0,
+        sheet: 0,
+        row: 0,
+        value: value,
+        count: count,
+    }
+}
