@@ -9,21 +9,22 @@ use crate::damage;
 use crate::dress::dress;
 use crate::goals;
 use crate::join::{self, JOIN};
-use crate::joins::Joins;
+use crate::joins;
 use crate::judge::{judge_bytes, judge_words, Verdict};
 use crate::lookup::{self, LOOKUP};
-use crate::lookups::Lookups;
+use crate::lookups;
 use crate::make;
 use crate::named::{self, Named};
-use crate::questions::{Made, Questions};
+use crate::questions;
 use crate::random::Random;
 use crate::scramble;
+use crate::series::{Made, Series};
 use crate::sheet::{bytes_of, words_of};
-use crate::surveys::Surveys;
+use crate::surveys;
 use crate::take_out::{self, TAKE_OUT};
 use crate::trial::{Expected, Request, MOST_PAYLOAD};
 use crate::way::{self, way_of};
-use crate::ways::Ways;
+use crate::ways;
 
 /// What is remembered of a case while its reply is on the way.
 pub struct About {
@@ -92,11 +93,8 @@ pub struct Plan {
     named: Vec<Named>,
     targets: Vec<Cell>,
     random: usize,
-    questions: Questions,
-    surveys: Surveys,
-    lookups: Lookups,
-    joins: Joins,
-    ways: Ways,
+    /// Questions 1 to 4, 5 to 10, the lookup, joining and taking out, the other ways.
+    series: [Series; 5],
 }
 
 type Maker = fn(&mut Random) -> Vec<u8>;
@@ -131,11 +129,13 @@ impl Plan {
             named: named::all(),
             targets,
             random: counts.checks,
-            questions: Questions::new(seed, counts.questions),
-            surveys: Surveys::new(seed, counts.surveys),
-            lookups: Lookups::new(seed, counts.lookups),
-            joins: Joins::new(seed, counts.joins),
-            ways: Ways::new(seed, counts.ways),
+            series: [
+                questions::series(seed, counts.questions),
+                surveys::series(seed, counts.surveys),
+                lookups::series(seed, counts.lookups),
+                joins::series(seed, counts.joins),
+                ways::series(seed, counts.ways),
+            ],
         }
     }
 
@@ -144,45 +144,34 @@ impl Plan {
         self.named.len() + self.targets.len() + self.random
     }
 
-    /// Where the cases of questions 5 to 10 begin.
+    /// Where the cases of a series begin.
+    fn before(&self, series: usize) -> usize {
+        self.checks() + self.series[..series].iter().map(Series::len).sum::<usize>()
+    }
+
     pub fn before_surveys(&self) -> usize {
-        self.checks() + self.questions.len()
+        self.before(1)
     }
 
-    /// Where the cases of the lookup begin.
     pub fn before_lookups(&self) -> usize {
-        self.before_surveys() + self.surveys.len()
+        self.before(2)
     }
 
-    /// Where the cases of joining and taking out begin.
     pub fn before_joins(&self) -> usize {
-        self.before_lookups() + self.lookups.len()
+        self.before(3)
     }
 
-    /// Where the cases of the other ways begin.
     pub fn before_ways(&self) -> usize {
-        self.before_joins() + self.joins.len()
+        self.before(4)
     }
 
     pub fn len(&self) -> usize {
-        self.before_ways() + self.ways.len()
+        self.before(self.series.len())
     }
 
     pub fn case(&self, number: usize) -> Case {
-        if let Some(at) = number.checked_sub(self.before_ways()) {
-            return asked_case(number, self.ways.case(at));
-        }
-        if let Some(at) = number.checked_sub(self.before_joins()) {
-            return asked_case(number, self.joins.case(at));
-        }
-        if let Some(at) = number.checked_sub(self.before_lookups()) {
-            return asked_case(number, self.lookups.case(at));
-        }
-        if let Some(at) = number.checked_sub(self.before_surveys()) {
-            return asked_case(number, self.surveys.case(at));
-        }
-        if let Some(at) = number.checked_sub(self.checks()) {
-            return asked_case(number, self.questions.case(at));
+        if let Some(series) = (0..self.series.len()).rev().find(|&at| self.before(at) <= number) {
+            return asked_case(number, self.series[series].case(number - self.before(series)));
         }
         let mut random = Random::for_case(self.seed, number as u64);
         let past_named = number.checked_sub(self.named.len());

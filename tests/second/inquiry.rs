@@ -90,21 +90,13 @@ pub fn aimed(random: &mut Random, number: u32) -> Vec<u8> {
 
 /// Some of these are still sheets, and then have to be answered.
 fn spoiled(random: &mut Random) -> Vec<u8> {
-    let mut words = scene::small(random).words();
+    let words = scene::small(random).words();
     match random.below(6) {
-        0 => return scramble::words_after_header(random),
-        1 => return scramble::random_words(random),
-        2 => return scramble::flipped_bits(random),
-        _ => {
-            let at = random.below(words.len());
-            words[at] = match random.below(3) {
-                0 => words[at] ^ 1 << random.below(32),
-                1 => random.below(9) as u32,
-                _ => words[random.below(words.len())],
-            };
-        }
+        0 => scramble::words_after_header(random),
+        1 => scramble::random_words(random),
+        2 => scramble::flipped_bits(random),
+        _ => scramble::one_word_changed(random, words),
     }
-    bytes_of(&words)
 }
 
 pub fn inquire(

@@ -2,14 +2,12 @@
 //! refusals of each sheet, then the unions at the limits and the full sheets,
 //! then any.
 
-use crate::book::Asked;
-use crate::case::expect;
 use crate::inquiry;
 use crate::join::join;
 use crate::join_inquiry;
 use crate::named_joins;
-use crate::questions::{disagreement, made, Made};
 use crate::random::Random;
+use crate::series::{made, Made, Place, Series};
 use crate::sheet::words_of;
 use crate::take_inquiry;
 use crate::take_out::take_out;
@@ -26,69 +24,40 @@ pub const FULL: usize = 4 * 2 * 2;
 /// Of ten cases three are a round trip, four are joins and three takings out.
 const TEN: usize = 10;
 
-/// Kept apart from the cases of the other operations.
 const STREAM: u64 = 0x4A6F_696E_3132_3133;
 
-pub struct Joins {
-    seed: u64,
-    named: Vec<Asked>,
-    random: usize,
+pub fn series(seed: u64, random: usize) -> Series {
+    Series::new(
+        seed,
+        STREAM,
+        named_joins::all(),
+        vec![(TOUR, tour), (LIMITS, limits), (FULL, full), (random, any)],
+    )
 }
 
-impl Joins {
-    pub fn new(seed: u64, random: usize) -> Joins {
-        Joins { seed: seed ^ STREAM, named: named_joins::all(), random }
-    }
+fn limits(random: &mut Random, place: &Place) -> Made {
+    let (name, inquiry) = join_inquiry::at_limit(random, place.at);
+    made(random, "join: limits", name, inquiry)
+}
 
-    pub fn len(&self) -> usize {
-        self.named.len() + TOUR + LIMITS + FULL + self.random
-    }
+fn full(random: &mut Random, place: &Place) -> Made {
+    let (name, inquiry) = take_inquiry::on_full(random, place.at);
+    made(random, "take out: full sheet", name, inquiry)
+}
 
-    pub fn case(&self, number: usize) -> Made {
-        let mut random = Random::for_case(self.seed, number as u64);
-        let mut at = number;
-        if at < self.named.len() {
-            return self.named_case(&mut random, at);
+fn any(random: &mut Random, place: &Place) -> Made {
+    match place.at % TEN {
+        leg @ 0..=2 => {
+            let mut together = Random::for_case(place.seed, (place.number - leg) as u64);
+            round_trip(random, join_inquiry::joined_pair(&mut together), leg)
         }
-        at -= self.named.len();
-        if at < TOUR {
-            return tour(&mut random, at);
+        3..=6 => {
+            let (manner, relation, inquiry) = join_inquiry::any(random);
+            made(random, manner, relation, inquiry)
         }
-        at -= TOUR;
-        if at < LIMITS {
-            let (name, inquiry) = join_inquiry::at_limit(&mut random, at);
-            return made(&mut random, "join: limits", name, inquiry);
-        }
-        at -= LIMITS;
-        if at < FULL {
-            let (name, inquiry) = take_inquiry::on_full(&mut random, at);
-            return made(&mut random, "take out: full sheet", name, inquiry);
-        }
-        at -= FULL;
-        self.any(&mut random, number, at)
-    }
-
-    fn named_case(&self, random: &mut Random, at: usize) -> Made {
-        let asked = &self.named[at];
-        let request = asked.inquiry().request(random);
-        let slip = disagreement(asked, &expect(&request));
-        ("named", asked.name.clone(), request, slip)
-    }
-
-    fn any(&self, random: &mut Random, number: usize, at: usize) -> Made {
-        match at % TEN {
-            leg @ 0..=2 => {
-                let mut together = Random::for_case(self.seed, (number - leg) as u64);
-                round_trip(random, join_inquiry::joined_pair(&mut together), leg)
-            }
-            3..=6 => {
-                let (manner, relation, inquiry) = join_inquiry::any(random);
-                made(random, manner, relation, inquiry)
-            }
-            _ => {
-                let (manner, inquiry) = take_inquiry::any(random);
-                made(random, manner, String::new(), inquiry)
-            }
+        _ => {
+            let (manner, inquiry) = take_inquiry::any(random);
+            made(random, manner, String::new(), inquiry)
         }
     }
 }
@@ -111,11 +80,11 @@ fn round_trip(random: &mut Random, sheets: [Vec<u32>; 2], leg: usize) -> Made {
     ("take out: round trip", name, inquiry.request(random), slip)
 }
 
-fn tour(random: &mut Random, at: usize) -> Made {
-    let number = 1 + (at / 6) as u32;
+fn tour(random: &mut Random, place: &Place) -> Made {
+    let number = 1 + (place.at / 6) as u32;
     let bytes = inquiry::aimed(random, number);
     let name = |place: &str| format!("aimed at {number} in {place}");
-    match at % 3 {
+    match place.at % 3 {
         0 => {
             let inquiry = join_inquiry::aimed(random, bytes, false);
             made(random, "join: tour", name("sheet 1"), inquiry)

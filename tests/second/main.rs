@@ -88,6 +88,7 @@ mod selftest_paths;
 mod selftest_questions;
 mod selftest_surveys;
 mod selftest_ways;
+mod series;
 mod sheet;
 mod sister;
 mod stopwatch;

@@ -79,6 +79,17 @@ pub fn flipped_bits(random: &mut Random) -> Vec<u8> {
     bytes
 }
 
+/// A bit of it turned, a small number put in its place, or a copy of another.
+pub fn one_word_changed(random: &mut Random, mut words: Vec<u32>) -> Vec<u8> {
+    let at = random.below(words.len());
+    words[at] = match random.below(3) {
+        0 => words[at] ^ 1 << random.below(32),
+        1 => random.below(9) as u32,
+        _ => words[random.below(words.len())],
+    };
+    bytes_of(&words)
+}
+
 pub fn swapped_words(random: &mut Random) -> Vec<u8> {
     let mut words = make::any(random).words();
     let (one, other) = (random.below(words.len()), random.below(words.len()));
