@@ -1,4 +1,4 @@
--- `ask::answer_checked` meets its contract.
+-- `ask::answer_checked` meets its contract: refused as the question stands, or the answer at the rows where it is placed.
 -- Assumes nothing.
 use Prim.Native.Nat.{ℕ}
 use mathlib.Core.Path.{refl, sym, subst, _∙_}

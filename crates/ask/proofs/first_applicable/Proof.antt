@@ -1,4 +1,4 @@
--- `ask::first_applicable` meets its contract.
+-- `ask::first_applicable` meets its contract: the lowest office that is not undetermined decides, by its own answer.
 -- Assumes nothing.
 use Prim.Native.Nat.{ℕ}
 use mathlib.Core.Path.{sym, ap, _∙_}

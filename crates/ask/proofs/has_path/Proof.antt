@@ -13,9 +13,6 @@ use Rattle.walk.specs.declared.Walk.{Walk}
 use Rattle.ask.proofs.has_path.Statement.{statement}
 use Rattle.ask.proofs.has_path.Tie as tie
 
--- `ask::has_path` meets its contract: there is a path exactly if the walk back from the folio numbers the person.
--- Assumes nothing.
-
 walk-for-requires : tie.Need-walk-for-requires
 walk-for-requires c κs = search needs
 

@@ -1,4 +1,4 @@
--- `ask::joint_checked` meets its contract.
+-- `ask::joint_checked` meets its contract: 27, then whom no office knows, and else the rule over the answers of all offices.
 -- Assumes nothing.
 use mathlib.Core.Path.{refl, sym, _∙_}
 use native.Mathlib.Omega.{arith}

@@ -1,4 +1,4 @@
--- `ask::joint_of` meets its contract.
+-- `ask::joint_of` meets its contract: each rule, by its number, is one line of the definition.
 -- Assumes nothing.
 use borrow.Author.Needs.{needs}
 use borrow.Author.Tests.{eq-eqb, ne-eqb}

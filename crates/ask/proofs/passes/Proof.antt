@@ -1,4 +1,4 @@
--- `ask::passes` meets its contract.
+-- `ask::passes` meets its contract: the test is the definition's, by what is wanted.
 -- Assumes nothing.
 use mathlib.Core.Path.{refl}
 use borrow.Author.Tests.{eq-eqb, ne-eqb}

@@ -1,4 +1,4 @@
--- `ask::path_rows` meets its contract.
+-- `ask::path_rows` meets its contract: the numbers of the walk back lead the trace, and the rows that it writes are the witness's.
 -- Assumes nothing.
 use borrow.Author.Needs.{needs}
 use Rattle.ask.proofs.Showing.{trace-ready, trace-layers, trace-from, trace-room, trace-rows}

@@ -1,4 +1,4 @@
--- `ask::side_first` meets its contract.
+-- `ask::side_first` meets its contract: the lowest office that gives the one side decides, and where none does the lowest that gives the other.
 -- Assumes nothing.
 use Prim.Native.Nat.{ℕ}
 use mathlib.Core.Path.{sym, ap, _∙_}

@@ -1,4 +1,4 @@
--- `ask::stand_at` meets its contract.
+-- `ask::stand_at` meets its contract: the rows that were looked up tell who is unknown, and place the question where nobody is.
 -- Assumes nothing.
 use native.Mathlib.Omega.{arith}
 use borrow.Author.Needs.{needs}

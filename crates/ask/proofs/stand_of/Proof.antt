@@ -1,4 +1,4 @@
--- `ask::stand_of` meets its contract.
+-- `ask::stand_of` meets its contract: 20 where there is no such office, or else how the question stands at the office counted from 0.
 -- Assumes nothing.
 use mathlib.Core.Path.{sym, _∙_}
 use native.Mathlib.Omega.{arith}

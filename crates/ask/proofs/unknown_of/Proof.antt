@@ -7,9 +7,6 @@ use Rattle.sheet.proofs.Refusing.{taken, left}
 use Rattle.ask.proofs.unknown_of.Statement.{statement}
 use Rattle.ask.proofs.unknown_of.Tie as tie
 
--- `ask::unknown_of` meets its contract.
--- Assumes nothing.
-
 returns : tie.Need-returns
 unfolding unfound
 returns c = taken 21 _ _ (missed _ _ (c .if1 .taken))

@@ -1,4 +1,4 @@
--- `ask::witness_checked` meets its contract.
+-- `ask::witness_checked` meets its contract: refused as the question stands, or the witness at the office asked, which is office k + 1.
 -- Assumes nothing.
 use mathlib.Core.Path.{refl, sym, _∙_}
 use borrow.Author.Needs.{needs}

@@ -1,4 +1,4 @@
--- `claim::is_carried` meets its contract.
+-- `claim::is_carried` meets its contract: the right and the folio it applies to are two relations between identities that are named.
 -- Assumes nothing.
 use Prim.Native.Nat.{suc}
 use borrow.Author.Needs.{needs}

@@ -1,4 +1,4 @@
--- `claim::is_member` meets its contract.
+-- `claim::is_member` meets its contract: a membership is the relation of kind 1 between the two identities.
 -- Assumes nothing.
 use Prim.Native.Nat.{suc}
 use borrow.Author.Needs.{needs}

@@ -1,4 +1,4 @@
--- `claim::is_row_of` meets its contract.
+-- `claim::is_row_of` meets its contract: kind, mark and both ends are compared as the definition does.
 -- Assumes nothing.
 use borrow.Author.Needs.{needs}
 use Rattle.claim.proofs.Listing.{end-room, row-is}

@@ -1,4 +1,4 @@
--- `claim::is_step` meets its contract.
+-- `claim::is_step` meets its contract: a containment is the relation of kind 2, from the one category to the other for a grant and back for a ban.
 -- Assumes nothing.
 use Prim.Native.Nat.{suc}
 use borrow.Author.Needs.{needs}

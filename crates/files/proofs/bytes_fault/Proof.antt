@@ -1,4 +1,4 @@
--- `files::bytes_fault` meets its contract.
+-- `files::bytes_fault` meets its contract: the test is the table's line.
 -- Assumes nothing.
 use Rattle.files.specs.Bytes.{bytesFault}
 use Rattle.sheet.proofs.Refusing.{lines}

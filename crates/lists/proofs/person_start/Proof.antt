@@ -1,4 +1,4 @@
--- `lists::person_start` meets its contract.
+-- `lists::person_start` meets its contract: the test is the definition's, as 1 or 0.
 -- Assumes nothing.
 use borrow.Author.Tests.{eq-eqb, ne-eqb}
 use mathlib.Core.Path.{sym, ap}

@@ -1,4 +1,4 @@
--- `lists::same_deed` meets its contract.
+-- `lists::same_deed` meets its contract: the test is the table's line, 31.
 -- Assumes nothing.
 use mathlib.Core.Path.{refl}
 use borrow.Author.Tests.{eq-eqb, ne-eqb}

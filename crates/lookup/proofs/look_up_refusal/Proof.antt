@@ -1,4 +1,4 @@
--- `lookup::look_up_refusal` meets its contract.
+-- `lookup::look_up_refusal` meets its contract: what refuses the identity that the three words name.
 -- Assumes nothing.
 use Rattle.lookup.specs.Looked.{lookFault}
 use Rattle.tables.specs.Key.{Key}
