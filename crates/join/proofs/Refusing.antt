@@ -15,6 +15,7 @@ use Rattle.sheet.specs.Refusals.{none, refuse}
 use Rattle.sheet.specs.Rows.{headerOf}
 use Rattle.sheet.specs.Verdict.{verdict}
 use Rattle.sheet.proofs.Accepting.{accepted}
+use Rattle.sheet.proofs.Forming.{passed-long}
 use Rattle.sheet.proofs.Refusing.{taken, left, not-eqb-true, not-eqb-false, line-good, refuse-good, then-good, refuse-some-is, refuse-none-is, then-some-is, then-none-is}
 use Rattle.join.specs.declared.Joined.{Joined}
 use Rattle.join.specs.Joined.{unionNodes, unionEdges, notOne, tooMuch, sheetsFault, unionFault, joinFault, refusedBy, JoinsAs, Joins, refused}
@@ -34,9 +35,6 @@ not-none : (k : ℕ) → suc k ≡ 0 → ⊥
 not-none k e = omega (arith, e)
 
 -- ---- the sheets
-
-pub long-enough : (p : ℕ) (s : List ℕ) (r : Refusal) → r ≡ verdict p s → r .number ≡ 0 → 6 ≤ length s
-long-enough p s r e z = let w = accepted p s (ap (λ (x : Refusal). x .number) (sym e) ∙ z) .nodes .header .whole in omega arith
 
 module _ (a b : List ℕ) (r : Refusal) (x : r ≡ verdict 1 a) where
   pub first-refused : (r .number ≡ 0 → ⊥) → r ≡ sheetsFault a b
@@ -92,10 +90,10 @@ module _ (a b : List ℕ) (r : Refusal) (x : r ≡ sheetsFault a b) (z : r .numb
   second-opens g e = opens 2 b g e (parted .1) (parted .3)
 
   pub first-long : 6 ≤ length a
-  first-long = long-enough 1 a (verdict 1 a) refl (parted .0)
+  first-long = passed-long 1 a (verdict 1 a) refl (parted .0)
 
   pub second-long : 6 ≤ length b
-  second-long = long-enough 2 b (verdict 2 b) refl (parted .1)
+  second-long = passed-long 2 b (verdict 2 b) refl (parted .1)
 
 -- ---- the union
 

@@ -1,9 +1,7 @@
 -- `lookup::refusal_of` meets its contract: the first sheet wholly, then the second, then 32.
 -- Assumes nothing.
 use Rattle.lookup.proofs.Looking.{first-refuses, second-refuses, neither-refuses}
-use Rattle.sheet.proofs.Accepting.{accepted}
-use Rattle.sheet.specs.declared.Refusal.{Refusal}
-use mathlib.Core.Path.{sym, ap, _∙_}
+use Rattle.sheet.proofs.Forming.{passed}
 use borrow.Author.Needs.{needs}
 use Rattle.lookup.proofs.refusal_of.Statement.{statement}
 use Rattle.lookup.proofs.refusal_of.Tie as tie
@@ -21,7 +19,7 @@ returns-2 : tie.Need-returns-2
 returns-2 c = second-refuses _ _ _ _ _ (c .before .before .before .before .before .check-as .ensures) (c .before .before .before .if1 .left) (c .before .before .check-as2 .ensures) (c .if2 .taken)
 
 missing-in-requires : tie.Need-missing-in-requires
-missing-in-requires c κs = (accepted 1 _ (ap (λ (x : Refusal). x .number) (sym (c .before .before .before .before .before .check-as .ensures)) ∙ c .before .before .before .if1 .left), accepted 2 _ (ap (λ (x : Refusal). x .number) (sym (c .before .before .check-as2 .ensures)) ∙ c .if2 .left))
+missing-in-requires c κs = (passed _ _ _ (c .before .before .before .before .before .check-as .ensures) (c .before .before .before .if1 .left), passed _ _ _ (c .before .before .check-as2 .ensures) (c .if2 .left))
 
 returns-3 : tie.Need-returns-3
 returns-3 c = neither-refuses _ _ _ _ _ _ (c .before .before .before .before .before .before .check-as .ensures) (c .before .before .before .before .if1 .left) (c .before .before .before .check-as2 .ensures) (c .before .if2 .left) (c .missing-in .ensures)
