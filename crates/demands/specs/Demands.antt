@@ -170,7 +170,7 @@ pub record Union (a b j : List ℕ) : Type 0 where
   pub sheet : Sheet 2 j
   pub identities : (k : Key) → marksAt (tablesOf j .nodes) k ≡ marksAt (tablesOf a .nodes) k + 2 * marksAt (tablesOf b .nodes) k
   pub relations : (k : Key) → marksAt (tablesOf j .edges) k ≡ marksAt (tablesOf a .edges) k + 2 * marksAt (tablesOf b .edges) k
-  -- each office of the joint sheet sees what it saw
+  -- each office of the joint sheet holds what it held
   pub offices : IsJoin a b j
 
 -- what a join that is not refused returns and leaves

@@ -1,4 +1,4 @@
--- The seam: an accepted sheet's tables rise, and what an office sees of them is its marked rows. Below it there are row numbers, above it none.
+-- The seam: an accepted sheet's tables rise, and what an office holds and sees of them is its marked rows. Below it there are row numbers, above it none.
 -- Assumes nothing.
 use Prim.Native.Nat.{ℕ, _+_, _^_, _<_}
 use mathlib.Core.Path.{_≡_, refl, sym, _∙_, ap}
@@ -8,14 +8,14 @@ use native.Mathlib.Omega.{arith}
 use Rattle.tables.specs.Key.{Key, identity, relation, belowKey}
 use Rattle.tables.specs.Marks.{marked, within}
 use Rattle.tables.specs.Table.{Rise}
-use Rattle.tables.specs.Office.{seenBy}
-use Rattle.tables.proofs.Keys.{Ahead, first, rest, ahead, behind, below-first, below-second, rises, one-row}
+use Rattle.tables.specs.Office.{heldBy}
+use Rattle.tables.proofs.Keys.{Ahead, first, rest, ahead, behind, below-first, below-second, rises}
 use Rattle.tables.proofs.Marks.{within-marked}
-use Rattle.tables.proofs.Tables.{rows-rise, MarkedRow, seen-row, row-seen}
+use Rattle.tables.proofs.Tables.{rows-rise, MarkedRow, held-row, row-held}
 use Rattle.sheet.specs.declared.Edge.{Edge}
 use Rattle.sheet.specs.Rows.{headerOf, nodeAt, edgeAt, edgeTable, edgeKey, nodeKeyAt, endsFit}
 use Rattle.sheet.specs.Accepted.{Rising, Accepted}
-use Rattle.sheet.specs.Named.{nodeRow, edgeRow, tablesOf, seenAt}
+use Rattle.sheet.specs.Named.{nodeRow, edgeRow, tablesOf, heldAt, seenAt}
 
 -- the key of a relation, from its row
 abbrev relationAt : List ℕ → Edge → Key
@@ -60,23 +60,37 @@ module _ (s : List ℕ) (w : Accepted s) where
   unfolding tablesOf edgeRow
   edges-rise = rows-rise _ [] _ (edgeRow s (edgeTable s)) (λ h. refl) (edges-up) (λ j h. (w .edges .fit j h .marks .some, w .edges .fit j h .marks .high))
 
+  -- an office holds an identity exactly if one of the node rows bears its mark ..
+  pub node-held : (office : ℕ) (k : Key) → heldAt s office .node k ≡ true → MarkedRow (headerOf s .nodes) (nodeRow s) office k
+  unfolding heldBy tablesOf
+  node-held office k e = held-row _ _ office k e
+
+  pub held-node : (office : ℕ) (k : Key) → MarkedRow (headerOf s .nodes) (nodeRow s) office k → heldAt s office .node k ≡ true
+  unfolding heldBy tablesOf
+  held-node office k r = row-held _ _ office k r
+
+  -- .. and a whole edge row likewise
+  pub edge-held : (office : ℕ) (k : Key) → heldAt s office .edge k ≡ true → MarkedRow (headerOf s .edges) (edgeRow s (edgeTable s)) office k
+  unfolding heldBy tablesOf
+  edge-held office k e = held-row _ _ office k e
+
+  pub held-edge : (office : ℕ) (k : Key) → MarkedRow (headerOf s .edges) (edgeRow s (edgeTable s)) office k → heldAt s office .edge k ≡ true
+  unfolding heldBy tablesOf
+  held-edge office k r = row-held _ _ office k r
+
   -- an identity stands at an office exactly if one of its node rows bears the mark ..
   pub node-seen : (office : ℕ) (k : Key) → seenAt s office .node k ≡ true → MarkedRow (headerOf s .nodes) (nodeRow s) office k
-  unfolding seenBy tablesOf
-  node-seen office k e = seen-row _ _ (one-row _ _ nodes-up) office k e
+  node-seen = node-held
 
   pub seen-node : (office : ℕ) (k : Key) → MarkedRow (headerOf s .nodes) (nodeRow s) office k → seenAt s office .node k ≡ true
-  unfolding seenBy tablesOf
-  seen-node office k r = row-seen _ _ (one-row _ _ nodes-up) office k r
+  seen-node = held-node
 
   -- .. and a relation exactly if one of its edge rows does
   pub edge-seen : (office : ℕ) (k : Key) → seenAt s office .edge k ≡ true → MarkedRow (headerOf s .edges) (edgeRow s (edgeTable s)) office k
-  unfolding seenBy tablesOf
-  edge-seen office k e = seen-row _ _ (one-row _ _ edges-up) office k e
+  edge-seen = edge-held
 
   pub seen-edge : (office : ℕ) (k : Key) → MarkedRow (headerOf s .edges) (edgeRow s (edgeTable s)) office k → seenAt s office .edge k ≡ true
-  unfolding seenBy tablesOf
-  seen-edge office k r = row-seen _ _ (one-row _ _ edges-up) office k r
+  seen-edge = held-edge
 
   -- the end of a marked edge row stands at the office too
   end-seen : (office j i : ℕ) → i < headerOf s .nodes → within (edgeAt (edgeTable s) j .offices) (nodeAt s i .offices) ≡ true

@@ -2,14 +2,15 @@
 -- Assumes nothing.
 use Prim.Native.Nat.{ℕ, zero, suc, _+_, _<_}
 use mathlib.Core.Path.{_≡_, refl, sym, ap, _∙_}
-use mathlib.Core.Bool.{Bool, true, false}
+use mathlib.Core.Bool.{Bool, true, false, _&&_, _||_, false≢true}
 use native.Mathlib.Omega.{arith}
 use native.Mathlib.Decide.{decLt}
 use native.Mathlib.Nat.{add-zero, zero-add}
 use Rattle.tables.specs.Key.{Key, sameKey, belowKey}
 use Rattle.tables.specs.Marks.{marked}
 use Rattle.tables.specs.Table.{Row, rowsOf, marksAt, Rise}
-use Rattle.tables.proofs.Keys.{same-refl, same-eq, ne-same}
+use Rattle.tables.specs.Office.{someOf, holds}
+use Rattle.tables.proofs.Keys.{same-refl, same-eq, eq-same, ne-same}
 use Rattle.tables.proofs.Marks.{marked-some}
 
 -- row i, below n, has the key k
@@ -81,21 +82,60 @@ rows-rise top low (suc n) f start up marks = (
       (λ i h. marks (suc i) (omega arith)),
 )
 
--- ---- what an office sees of rows that have keys of their own: the marked ones
+-- ---- rows that count, and what an office holds: the marked ones
 
--- row i, below n, has the key k and bears the office's mark
-pub record MarkedRow (n : ℕ) (f : ℕ → Row) (office : ℕ) (k : Key) : Type 0 where
+-- of n rows, one that counts has the key k
+pub record Counted (n : ℕ) (key : ℕ → Key) (counts : ℕ → Bool) (k : Key) : Type 0 where
   pub row : ℕ
   pub inside : row < n
-  pub names : f row .key ≡ k
-  pub bears : marked (f row .marks) office ≡ true
+  pub names : key row ≡ k
+  pub bears : counts row ≡ true
 
-module _ (n : ℕ) (f : ℕ → Row) (own : (i j : ℕ) → i < n → j < n → f i .key ≡ f j .key → i ≡ j) (office : ℕ) where
-  pub seen-row : (k : Key) → marked (marksAt (rowsOf n f) k) office ≡ true → MarkedRow n f office k
-  seen-row k e =
-      let at = row-of n f k (marked-some (marksAt (rowsOf n f) k) office e) in
-      let here = marks-named n f own k (at .row) (at .inside) (at .names) in
-      record { row = at .row; inside = at .inside; names = at .names; bears = ap (λ (m : ℕ). marked m office) (sym here) ∙ e }
+-- row i, below n, has the key k and bears the office's mark
+abbrev pub MarkedRow : ℕ → (ℕ → Row) → ℕ → Key → Type 0
+MarkedRow n f office k = Counted n (λ i. f i .key) (λ i. marked (f i .marks) office) k
 
-  pub row-seen : (k : Key) → MarkedRow n f office k → marked (marksAt (rowsOf n f) k) office ≡ true
-  row-seen k r = ap (λ (m : ℕ). marked m office) (marks-named n f own k (r .row) (r .inside) (r .names)) ∙ r .bears
+-- of rows that have keys of their own, the one whose key has marks bears them
+pub marks-counted : (n : ℕ) (f : ℕ → Row) → ((i j : ℕ) → i < n → j < n → f i .key ≡ f j .key → i ≡ j) → (office : ℕ) (k : Key) → marked (marksAt (rowsOf n f) k) office ≡ true → MarkedRow n f office k
+marks-counted n f own office k e =
+    let at = row-of n f k (marked-some (marksAt (rowsOf n f) k) office e) in
+    let here = marks-named n f own k (at .row) (at .inside) (at .names) in
+    record { row = at .row; inside = at .inside; names = at .names; bears = ap (λ (m : ℕ). marked m office) (sym here) ∙ e }
+
+-- some row of a table is one of its rows by number ..
+pub some-of : (p : Row → Bool) (n : ℕ) (f : ℕ → Row) → someOf p (rowsOf n f) ≡ true → (i : ℕ) × (i < n) × (p (f i) ≡ true)
+unfolding rowsOf someOf
+some-of p zero f e = absurd (false≢true e)
+some-of p (suc n) f e = go (p (f 0)) refl e (some-of p n (λ i. f (suc i)))
+  where
+    go : (b : Bool) → p (f 0) ≡ b → (b || someOf p (rowsOf n (λ i. f (suc i)))) ≡ true → (someOf p (rowsOf n (λ i. f (suc i))) ≡ true → (i : ℕ) × (i < n) × (p (f (suc i)) ≡ true)) → (i : ℕ) × (i < suc n) × (p (f i) ≡ true)
+    go true q d more = (0, omega arith, q)
+    go false q d more = let r = more d in (suc (r .0), omega (arith, r .1), r .2)
+
+-- .. and each that passes shows that some does
+pub of-some : (p : Row → Bool) (n : ℕ) (f : ℕ → Row) (i : ℕ) → i < n → p (f i) ≡ true → someOf p (rowsOf n f) ≡ true
+unfolding rowsOf someOf
+of-some p zero f i l e = absurd (omega (arith, l))
+of-some p (suc n) f zero l e = rw e
+of-some p (suc n) f (suc i) l e = go (p (f 0)) (of-some p n (λ j. f (suc j)) i (omega (arith, l)) e)
+  where
+    go : (b : Bool) → someOf p (rowsOf n (λ j. f (suc j))) ≡ true → (b || someOf p (rowsOf n (λ j. f (suc j)))) ≡ true
+    go true d = refl
+    go false d = d
+
+-- a test of two parts that passes passes both
+pub and-true : (a b : Bool) → (a && b) ≡ true → (a ≡ true) × (b ≡ true)
+and-true true b e = (refl, e)
+and-true false b e = absurd (false≢true e)
+
+module _ (n : ℕ) (f : ℕ → Row) (office : ℕ) where
+  pub held-row : (k : Key) → holds office (rowsOf n f) k ≡ true → MarkedRow n f office k
+  unfolding holds
+  held-row k e =
+      let r = some-of _ n f e in
+      let p = and-true (marked (f (r .0) .marks) office) _ (r .2) in
+      record { row = r .0; inside = r .1; names = same-eq _ k (p .1); bears = p .0 }
+
+  pub row-held : (k : Key) → MarkedRow n f office k → holds office (rowsOf n f) k ≡ true
+  unfolding holds
+  row-held k r = of-some _ n f (r .row) (r .inside) (rw (r .bears) (eq-same _ k (r .names)))

@@ -1,4 +1,4 @@
--- The sheet that is taken out is accepted, has one office, and that office sees what the office taken out sees: its kept rows are read back, each at the number of those kept below it.
+-- The sheet that is taken out is accepted, has one office, and that office holds what the office taken out holds: its kept rows are read back, each at the number of those kept below it.
 -- Assumes nothing.
 use Prim.Native.Nat.{ℕ, suc, _+_, _*_, _<_}
 use mathlib.Core.Path.{_≡_, refl, sym, ap, ap₂, subst, _∙_}
@@ -19,7 +19,7 @@ use Rattle.sheet.specs.declared.Node.{Node}
 use Rattle.sheet.specs.declared.Edge.{Edge}
 use Rattle.sheet.specs.Rows.{word, headerOf, nodeAt, edgeAt, edgeTable, nodeKey, edgeKey, nodeKeyAt, edgeKeyAt}
 use Rattle.sheet.specs.Accepted.{HeaderFits, MarksFit, NodeFits, EdgeShaped, EdgeFits, Rising, WellFormed, Accepted}
-use Rattle.sheet.specs.Named.{seenAt}
+use Rattle.sheet.specs.Named.{heldAt}
 use Rattle.meaning.specs.Join.{IsTaken}
 use Rattle.carry.specs.Carried.{From, NodesCarried, EdgesCarried}
 use Rattle.carry.specs.Stored.{headerSix, nodeFour, edgeFour}
@@ -231,7 +231,7 @@ module _ (s : List ℕ) (office : ℕ) where
     accepted : Accepted t
     accepted = rw (table-is, header-is) formed
 
-    -- ---- its office sees what the office sees
+    -- ---- its office holds what the office holds
 
     nodes-carried : NodesCarried s t office 1 map
     unfolding nodeKept ownNode
@@ -268,10 +268,10 @@ taken-is s k w =
     record {
       accepted = accepted s (suc k) w;
       offices = ap (λ (h : Header). h .offices) (header-is s (suc k));
-      sees = λ i h. only i (omega arith);
+      holds = λ i h. only i (omega arith);
     }
   where
-    only : (i : ℕ) → i ≡ 0 → Same (seenAt (takenSheet s (suc k)) (suc i)) (seenAt s (suc (k + i)))
+    only : (i : ℕ) → i ≡ 0 → Same (heldAt (takenSheet s (suc k)) (suc i)) (heldAt s (suc (k + i)))
     only i z =
         let e : k + 0 ≡ k = omega arith in
         rw (z, e) (carried s (takenSheet s (suc k)) w (accepted s (suc k) w) (suc k) 1 _ _ (nodes-carried s (suc k) w) (edges-carried s (suc k) w))
