@@ -77,7 +77,8 @@ fn rows_by_deed(
     ensures { λ r. ⌜ RowsByDeed (now (sheet .entry)) (now (edges .entry)) h w d number r ⌝ }
 {
     let mut rows = deed_starts(sheet, h, d, number);
-    walk::run(sheet, edges, h, w, false, h.edges, head, next, &mut rows);
+    let none = walk::none_left_out(h);
+    walk::run(sheet, edges, h, w, false, none, head, next, &mut rows);
     rows
 }
 

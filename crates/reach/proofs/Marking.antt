@@ -17,7 +17,9 @@ use Rattle.paths.specs.Steps.{Reached, start, then, Layers, Starts}
 use Rattle.paths.proofs.Distances.{zero-or, reached-map}
 use Rattle.paths.proofs.Rounds.{same-or}
 use Rattle.walk.specs.declared.Walk.{Walk}
-use Rattle.walk.specs.Arcs.{Steps, Others}
+use Rattle.sheet.specs.Accepted.{WellFormed}
+use Rattle.walk.specs.declared.LeftOut.{LeftOut}
+use Rattle.walk.specs.Arcs.{noneLeftOut, Steps, Others}
 use Rattle.walk.specs.Outset.{Blank}
 use Rattle.walk.proofs.Visiting.{whole-layers}
 use Rattle.reach.specs.Reaching.{Tells, LeadsTo, Started, ReachedFrom}
@@ -41,11 +43,11 @@ tells-map f f′ t = record { no = λ z q. t .no z (f′ q); yes = λ n. f (t .y
 
 -- ---- from one row
 
-pub reached-from : (s t : List ℕ) (h : Header) (w : Walk) (from : ℕ) (d : List ℕ) → length d ≡ maxNodes → Layers (Others s t w false (h .edges) (h .edges)) (λ x. x ≡ from) d → ReachedFrom s t h w from d
-reached-from s t h w from d e y =
+pub reached-from : (s t : List ℕ) (h : Header) (w : Walk) (from : ℕ) (d : List ℕ) → WellFormed s t h → (but : LeftOut) → but ≡ noneLeftOut h → length d ≡ maxNodes → Layers (Others s t w false but (h .edges)) (λ x. x ≡ from) d → ReachedFrom s t h w from d
+reached-from s t h w from d f but q e y =
     record {
       long = e;
-      each = λ i l. layers-tell (whole-layers s t w false (h .edges) (λ x. x ≡ from) d y) i (LeadsTo s t h w from i) (λ n r. record { steps = n; reached = r }) (λ p. (p .steps, p .reached));
+      each = λ i l. layers-tell (whole-layers s t h w false but q f (λ x. x ≡ from) d y) i (LeadsTo s t h w from i) (λ n r. record { steps = n; reached = r }) (λ p. (p .steps, p .reached));
     }
 
 -- ---- from the rows that pass a test

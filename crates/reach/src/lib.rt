@@ -41,5 +41,5 @@ pub fn person_reach(
     requires { ⌜ WellFormed (now sheet) (now edges) h × (0 < w .mark) × Arranged (now sheet) (now edges) h w false (now head) (now next) × (from < h .nodes) ⌝ }
     ensures { λ r. ⌜ ReachedFrom (now (sheet .entry)) (now (edges .entry)) h w from r ⌝ }
 {
-    walk::reach(sheet, edges, h, w, h.edges, head, next, from)
+    walk::reach(sheet, edges, h, w, walk::none_left_out(h), head, next, from)
 }

@@ -1,29 +1,28 @@
--- The other rows of a row's walk lead from its one end to the other exactly if it is redundant: by the link that the row is, a case for each kind. Rows are told apart by their ends, for a walk takes one kind between two types.
+-- The other steps of a row's walk lead from its one end to the other exactly if it is redundant: by the link that the row is, a case for each kind. Other rows of the same relation make the same step.
 -- Assumes nothing.
 use Prim.Native.Nat.{ℕ, suc, _+_, _/_, _%_, _^_, _<_, _≤_}
 use native.Mathlib.Omega.{arith}
 use mathlib.Core.Path.{_≡_, refl, sym, ap, subst, _∙_}
-use mathlib.Core.Bool.{Bool, true, false, not, _&&_, true≢false}
+use mathlib.Core.Bool.{Bool, true, false}
 use mathlib.Core.List.{List}
 use lib.Dec.{eqb}
 use lib.ListN.{length}
-use borrow.Author.Tests.{eq-eqb, ne-eqb}
 use Rattle.tables.specs.Key.{Key, relation}
 use Rattle.tables.specs.Office.{View}
-use Rattle.tables.proofs.Keys.{one-row}
 use Rattle.sheet.specs.declared.Edge.{Edge}
-use Rattle.sheet.specs.Rows.{headerOf, nodeAt, edgeAt, edgeTable, nodeKeyAt, edgeKeyAt}
+use Rattle.sheet.specs.Rows.{headerOf, nodeAt, edgeAt, edgeTable, nodeKeyAt}
 use Rattle.sheet.specs.Accepted.{Accepted}
 use Rattle.sheet.specs.Named.{seenAt}
 use Rattle.paths.specs.Leads.{leads, Reach, here, more, Beyond}
 use Rattle.paths.specs.Steps.{Reached, start, then}
 use Rattle.paths.specs.Best.{Trail, ends, goes}
-use Rattle.paths.proofs.Tests.{and-left, and-right, both}
+use Rattle.paths.proofs.Tests.{and-right}
 use Rattle.meaning.specs.Paths.{Side, rightKind, person, category, deed, member, right, step}
 use Rattle.meaning.specs.Questions.{Redundant, member-row, containment-row, right-row}
 use Rattle.walk.specs.declared.Walk.{Walk}
-use Rattle.walk.specs.Arcs.{takes, turned, tailOf, headOf, arcAt, arcBut, Others}
-use Rattle.walk.proofs.Walking.{arc-inside}
+use Rattle.walk.specs.Arcs.{takes, turned, tailOf, headOf, arcAt, Others}
+use Rattle.walk.specs.declared.LeftOut.{LeftOut}
+use Rattle.walk.proofs.Visiting.{other-step, other-apart, step-other, other-inside}
 use Rattle.ask.proofs.Links.{walkFor, Link, joins, climbs, gives-right, serves, link-of, member-arc, step-arc, right-arc, same-row}
 use Rattle.redundant.specs.Pruned.{sideFor}
 use Rattle.reach.proofs.Reaching.{Step, own-step, any-step}
@@ -60,10 +59,14 @@ module _ (s : List ℕ) (acc : Accepted s) (k : ℕ) (side : Side) (j : ℕ) whe
   abbrev w : Walk
   w = walkFor k side 0
 
-  abbrev Other : ℕ → ℕ → Type 0
-  Other = Others s (edgeTable s) w false j (headerOf s .edges)
+  -- the row's own step
+  abbrev own : LeftOut
+  own = record { near = from; far = to }
 
-  -- the other rows lead from the row's one end to the other
+  abbrev Other : ℕ → ℕ → Type 0
+  Other = Others s (edgeTable s) w false own (headerOf s .edges)
+
+  -- the other steps lead from the row's one end to the other
   pub record Past : Type 0 where
     pub steps : ℕ
     pub reached : Reached Other (λ x. x ≡ from) steps to
@@ -81,46 +84,18 @@ module _ (s : List ℕ) (acc : Accepted s) (k : ℕ) (side : Side) (j : ℕ) whe
     unfolding takes
     own-kind i e = own-of side (edge i .kind) _ (and-right (eqb (edge i .offices / 2 ^ k % 2) 1) _ e)
 
-    kind-is : (i : ℕ) → i < headerOf s .edges → takes w (edge i) (nodeAt s (edge i .to)) ≡ true → edge i .kind ≡ kindBy side (class (edge i .from) + class (edge i .to))
-    kind-is i l e = kind-by side (edge i .kind) (class (edge i .from)) (class (edge i .to)) (own-kind i e) (acc .edges .fit i l .ends)
-
-    -- a row that leaves and enters as row j does is row j
-    same-ends : (i : ℕ) → i < headerOf s .edges → takes w (edge i) (nodeAt s (edge i .to)) ≡ true → tailOf w (edge i) ≡ from → headOf w (edge i) ≡ to → i ≡ j
-    unfolding tailOf headOf
-    same-ends i l e p q = go (turned w (edge i)) refl
-      where
-        same-kind : class (edge i .from) + class (edge i .to) ≡ class from + class to → edge i .kind ≡ edge j .kind
-        same-kind u = kind-is i l e ∙ ap (kindBy side) u ∙ sym (kind-is j inside taken)
-
-        ends-same : edge i .from ≡ from → edge i .to ≡ to → i ≡ j
-        ends-same u v =
-            let x = same-kind (omega (arith, ap class u, ap class v)) in
-            one-row (edgeKeyAt (edgeTable s)) (headerOf s .edges) (acc .edges .rise) i j l inside cc
-
-        ends-turned : edge i .from ≡ to → edge i .to ≡ from → turned w (edge i) ≡ true → i ≡ j
-        ends-turned u v b =
-            let x = same-kind (omega (arith, ap class u, ap class v)) in
-            absurd (true≢false (sym (ap (λ (z : ℕ). eqb (rightKind side) 4 && eqb z 2) (sym x) ∙ b) ∙ straight))
-
-        go : (b : Bool) → turned w (edge i) ≡ b → i ≡ j
-        go true b = ends-turned (rw b at q) (rw b at p) b
-        go false b = ends-same (rw b at p) (rw b at q)
-
-    -- ---- a step by another row is a link with other ends, and each such link is a step by another row
+    -- ---- each other step is a link with other ends, and each such link is another step
 
     aside-of : (a b : ℕ) → Other a b → Aside a b
-    unfolding arcBut arcAt
     aside-of a b x =
-        let o = any-step s acc k side 0 a b (record { row = x .row; inside = x .inside; is = took; leaves = x .leaves; enters = x .enters }) in
+        let y = other-step s (edgeTable s) w false own (headerOf s .edges) a b x in
+        let o = any-step s acc k side 0 a b y in
         record {
           for = o .0;
           link = link-of s acc k side (o .0) (o .1) a b (o .3);
-          inside = subst (λ (y : ℕ). y < headerOf s .nodes) (x .enters) (arc-inside s (edgeTable s) (headerOf s) w false (x .row) acc (x .inside) .1);
-          apart = λ p q. true≢false (sym (and-right (takes w (edge (x .row)) (nodeAt s (edge (x .row) .to))) _ (x .is)) ∙ ap not (eq-eqb (x .row) j (same-ends (x .row) (x .inside) took (x .leaves ∙ p) (x .enters ∙ q))));
+          inside = other-inside s (edgeTable s) (headerOf s) w false own acc a b x .1;
+          apart = other-apart s (edgeTable s) w false own (headerOf s .edges) a b x;
         }
-      where
-        took : takes w (edge (x .row)) (nodeAt s (edge (x .row) .to)) ≡ true
-        took = and-left (takes w (edge (x .row)) (nodeAt s (edge (x .row) .to))) _ (x .is)
 
     -- the ends of row j
     leaves-from : tailOf w (edge j) ≡ from
@@ -131,21 +106,10 @@ module _ (s : List ℕ) (acc : Accepted s) (k : ℕ) (side : Side) (j : ℕ) whe
     unfolding headOf
     enters-to = rw straight
 
-    other-step : (a b : ℕ) → Step s acc k side 0 a b → (a ≡ from → b ≡ to → ⊥) → Other a b
-    unfolding arcBut arcAt
-    other-step a b x apart =
-        record {
-          row = x .row;
-          inside = x .inside;
-          is = both (x .is) (ap not (ne-eqb (x .row) j not-j));
-          leaves = x .leaves;
-          enters = x .enters;
-        }
-      where
-        not-j : x .row ≡ j → ⊥
-        not-j e = apart (sym (x .leaves) ∙ ap (λ (i : ℕ). tailOf w (edge i)) e ∙ leaves-from) (sym (x .enters) ∙ ap (λ (i : ℕ). headOf w (edge i)) e ∙ enters-to)
+    past-step : (a b : ℕ) → Step s acc k side 0 a b → (a ≡ from → b ≡ to → ⊥) → Other a b
+    past-step a b x apart = step-other s (edgeTable s) w false own (headerOf s .edges) a b x apart
 
-    -- ---- where a walk by other rows leads: types never fall, and from a deed on they rise
+    -- ---- where a walk by other steps leads: types never fall, and from a deed on they rise
 
     rises : (d a b : ℕ) → Link s acc k side d a b → (class a ≤ class b) × (3 ≤ class a → class a < class b)
     rises d a b (joins p c u v m) = let x : class a ≡ 1 = cc in let y : class b ≡ 2 = cc in (omega arith, λ h. omega arith)
@@ -329,7 +293,7 @@ module _ (s : List ℕ) (acc : Accepted s) (k : ℕ) (side : Side) (j : ℕ) whe
     climbed R C c c′ a (more {b = b} e r) =
         let o = step-arc s acc k side 0 (a .row) c b (a .row-in) (a .names) (C .is-step c b e) in
         climbed R C b c′
-        (record { steps = suc (a .steps); row = o .row; reached = then (a .reached) (other-step (a .row) (o .row) (o .arc) (C .apart (a .row) (o .row) c b (a .names) (o .names) e)); row-in = o .inside; names = o .names }) r
+        (record { steps = suc (a .steps); row = o .row; reached = then (a .reached) (past-step (a .row) (o .row) (o .arc) (C .apart (a .row) (o .row) c b (a .names) (o .names) e)); row-in = o .inside; names = o .names }) r
 
     -- the row that was looked for
     landed : (y : ℕ) → nodeKeyAt s to ≡ category y → Landed y → Past
@@ -343,7 +307,7 @@ module _ (s : List ℕ) (acc : Accepted s) (k : ℕ) (side : Side) (j : ℕ) whe
         let o = member-arc s acc k side 0 from p (e .0) from-in u (e .2) in
         let n : o .row ≡ to → ⊥ = λ q. e .1 (same-number (o .row) to (e .0) y q (o .names) v) in
         landed y v (climbed (step g side) (climb-all (λ q q′. let q″ : class from ≡ 1 = cc in omega arith)) (e .0) y
-        (record { steps = 1; row = o .row; reached = then (start refl) (other-step from (o .row) (o .arc) (λ q. n)); row-in = o .inside; names = o .names })
+        (record { steps = 1; row = o .row; reached = then (start refl) (past-step from (o .row) (o .arc) (λ q. n)); row-in = o .inside; names = o .names })
         (more (e .3 .first) (e .3 .rest)))
 
     contained-past : (x y : ℕ) (cs : List ℕ) → nodeKeyAt s from ≡ category x → nodeKeyAt s to ≡ category y → 2 ≤ length cs → leads (step g side) (λ c. eqb c y) x cs ≡ true → Past
@@ -357,7 +321,7 @@ module _ (s : List ℕ) (acc : Accepted s) (k : ℕ) (side : Side) (j : ℕ) whe
         record {
           steps = suc (a .steps);
           reached = then (a .reached) (subst (λ (z : ℕ). Other (a .row) z) (one-node (o .row) to (deed d v) (o .inside) to-in (o .names) t)
-              (other-step (a .row) (o .row) y (λ q q′. e .1 (same-number (a .row) from (e .0) x q (a .names) u))));
+              (past-step (a .row) (o .row) y (λ q q′. e .1 (same-number (a .row) from (e .0) x q (a .names) u))));
         }
 
     -- ---- by the link that row j is itself
@@ -369,7 +333,7 @@ module _ (s : List ℕ) (acc : Accepted s) (k : ℕ) (side : Side) (j : ℕ) whe
         (o .0, link-of s acc k side (o .0) (o .1) from to (o .3))
 
     kind-for : (n : ℕ) → class from + class to ≡ n → edge j .kind ≡ kindBy side n
-    kind-for n e = kind-is j inside taken ∙ ap (kindBy side) e
+    kind-for n e = kind-by side (edge j .kind) (class from) (class to) (own-kind j taken) (acc .edges .fit j inside .ends) ∙ ap (kindBy side) e
 
     module _ (fit : side ≡ sideFor (edge j .kind)) where
       pub past-redundant : Past → Redundant g (relation (edge j .kind) (nodeKeyAt s from) (nodeKeyAt s to))

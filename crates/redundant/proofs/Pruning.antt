@@ -22,10 +22,11 @@ use Rattle.paths.proofs.Tests.{both}
 use Rattle.meaning.specs.Paths.{Side, rightKind}
 use Rattle.meaning.specs.Answers.{Says}
 use Rattle.meaning.specs.Questions.{RedundantRow, RedundantAre}
+use Rattle.walk.specs.declared.LeftOut.{LeftOut}
 use Rattle.walk.specs.Arcs.{takes, Others}
 use Rattle.ask.proofs.Links.{walkFor, kind-of}
 use Rattle.sheet.proofs.Forming.{words-of}
-use Rattle.redundant.specs.Pruned.{sideWalk, sideFor, PastRow}
+use Rattle.redundant.specs.Pruned.{sideWalk, sideFor, stepOf, PastRow}
 use Rattle.reach.proofs.Collecting.{Collected, collected-all}
 use Rattle.redundant.proofs.Taking.{ownTest, own-test}
 use Rattle.redundant.proofs.Past.{past-redundant, redundant-past}
@@ -33,7 +34,7 @@ use Rattle.redundant.proofs.Past.{past-redundant, redundant-past}
 module _ (s : List ℕ) (k j : ℕ) (dist : List ℕ) (b : Bool) where
   -- row j of the edge table t bears the office's mark, and b says whether the walk's numbers reach its to end
   abbrev Judged : List ℕ → Header → Type 0
-  Judged t h = j < h .edges → marked (edgeAt t j .offices) (suc k) ≡ true → Layers (Others s t (walkFor k (sideFor (edgeAt t j .kind)) 0) false j (h .edges)) (λ x. x ≡ edgeAt t j .from) dist
+  Judged t h = j < h .edges → marked (edgeAt t j .offices) (suc k) ≡ true → Layers (Others s t (walkFor k (sideFor (edgeAt t j .kind)) 0) false (stepOf (edgeAt t j)) (h .edges)) (λ x. x ≡ edgeAt t j .from) dist
       → b ≡ not (eqb (getD dist (edgeAt t j .to) 0) 0) → Says b (RedundantRow s (suc k) j)
 
   judged-own : Accepted s → Judged (edgeTable s) (headerOf s)
@@ -74,20 +75,22 @@ unmarked s t h f k mark j e q m n r =
     n (rw (q, m, f .table) b)
 
 -- the walk of the side by which the kind is judged
-pub past-by : (s t : List ℕ) (h : Header) (mark kind j from : ℕ) (dist : List ℕ) (side : Side) → sideFor kind ≡ side
-    → (length dist ≡ maxNodes) × Layers (Others s t (sideWalk mark side) false j (h .edges)) (λ x. x ≡ from) dist → PastRow s t h mark kind j from dist
-past-by s t h mark kind j from dist side e y =
-    record { long = y .0; layers = subst (λ (S : Side). Layers (Others s t (sideWalk mark S) false j (h .edges)) (λ x. x ≡ from) dist) (sym e) (y .1) }
+pub past-by : (s t : List ℕ) (h : Header) (mark kind : ℕ) (but : LeftOut) (dist : List ℕ) (side : Side) → sideFor kind ≡ side
+    → (length dist ≡ maxNodes) × Layers (Others s t (sideWalk mark side) false but (h .edges)) (λ x. x ≡ but .near) dist → PastRow s t h mark kind but dist
+past-by s t h mark kind but dist side e y =
+    record { long = y .0; layers = subst (λ (S : Side). Layers (Others s t (sideWalk mark S) false but (h .edges)) (λ x. x ≡ but .near) dist) (sym e) (y .1) }
 
 -- a marked row is redundant exactly if the numbers reach its to end
 pub redundant-by : (s t : List ℕ) (h : Header) → WellFormed s t h → (k mark j : ℕ) (e : Edge) (dist : List ℕ) (b : Bool) → e ≡ edgeAt t j → mark ≡ 2 ^ k → j < h .edges → e .offices / mark % 2 ≡ 1
-    → PastRow s t h mark (e .kind) j (e .from) dist → b ≡ not (eqb (getD dist (e .to) 0) 0) → Says b (RedundantRow s (suc k) j)
-redundant-by s t h f k mark j e dist b q m l = subst (λ (x : Edge). x .offices / mark % 2 ≡ 1 → PastRow s t h mark (x .kind) j (x .from) dist → b ≡ not (eqb (getD dist (x .to) 0) 0) → Says b (RedundantRow s (suc k) j)) (sym q) here-so
+    → (but : LeftOut) → but ≡ stepOf e → PastRow s t h mark (e .kind) but dist → b ≡ not (eqb (getD dist (e .to) 0) 0) → Says b (RedundantRow s (suc k) j)
+redundant-by s t h f k mark j e dist b q m l o but z p =
+    subst (λ (x : Edge). x .offices / mark % 2 ≡ 1 → PastRow s t h mark (x .kind) (stepOf x) dist → b ≡ not (eqb (getD dist (x .to) 0) 0) → Says b (RedundantRow s (suc k) j)) (sym q) here-so
+    o (subst (λ (x : LeftOut). PastRow s t h mark (e .kind) x dist) z p)
   where
-    here-so : edgeAt t j .offices / mark % 2 ≡ 1 → PastRow s t h mark (edgeAt t j .kind) j (edgeAt t j .from) dist → b ≡ not (eqb (getD dist (edgeAt t j .to) 0) 0) → Says b (RedundantRow s (suc k) j)
+    here-so : edgeAt t j .offices / mark % 2 ≡ 1 → PastRow s t h mark (edgeAt t j .kind) (stepOf (edgeAt t j)) dist → b ≡ not (eqb (getD dist (edgeAt t j .to) 0) 0) → Says b (RedundantRow s (suc k) j)
     here-so o p r =
         judged s k j dist b t h f l (eq-eqb _ 1 (subst (λ (x : ℕ). edgeAt t j .offices / x % 2 ≡ 1) m o))
-        (subst (λ (x : ℕ). Layers (Others s t (sideWalk x (sideFor (edgeAt t j .kind))) false j (h .edges)) (λ y. y ≡ edgeAt t j .from) dist) m (p .layers)) r
+        (subst (λ (x : ℕ). Layers (Others s t (sideWalk x (sideFor (edgeAt t j .kind))) false (stepOf (edgeAt t j)) (h .edges)) (λ y. y ≡ edgeAt t j .from) dist) m (p .layers)) r
 
 -- the rows collected are all that there are
 pub pruned-all : (s t : List ℕ) (h : Header) → WellFormed s t h → (k j : ℕ) (out : List ℕ) → h .edges ≤ j → Collected (RedundantRow s (suc k)) (λ i. i) j out → RedundantAre s (suc k) out

@@ -1,16 +1,18 @@
--- Question 10: the walk by which a row is judged, and its numbers where that row is left out.
+-- Question 10: the walk by which a row is judged, and its numbers where that row's step is left out.
 -- Assumes nothing.
 use Prim.Native.Nat.{ℕ}
 use mathlib.Core.Path.{_≡_}
 use mathlib.Core.Bool.{false, cond}
 use mathlib.Core.List.{List}
 use lib.ListN.{length}
+use Rattle.sheet.specs.declared.Edge.{Edge}
 use Rattle.sheet.specs.declared.Header.{Header}
 use Rattle.sheet.specs.Limits.{maxNodes}
 use Rattle.sheet.specs.Refusals.{_is_}
 use Rattle.paths.specs.Steps.{Layers}
 use Rattle.meaning.specs.Paths.{Side, grant, ban, rightKind}
 use Rattle.walk.specs.declared.Walk.{Walk}
+use Rattle.walk.specs.declared.LeftOut.{LeftOut}
 use Rattle.walk.specs.Arcs.{Others, Arranged}
 
 -- the walk of a side, for any deed
@@ -26,7 +28,11 @@ pub record BothArranged (s t : List ℕ) (h : Header) (mark : ℕ) (grantHead gr
   pub grants : Arranged s t h (sideWalk mark grant) false grantHead grantNext
   pub bans : Arranged s t h (sideWalk mark ban) false banHead banNext
 
--- the numbers of the walk from a row, row j of the given kind left out
-pub record PastRow (s t : List ℕ) (h : Header) (mark kind j from : ℕ) (d : List ℕ) : Type 0 where
+-- the step that a row makes: the rows of its ends
+abbrev pub stepOf : Edge → LeftOut
+stepOf e = record { near = e .from; far = e .to }
+
+-- the numbers of the walk from the row that a step leaves, that step of a row of the given kind left out
+pub record PastRow (s t : List ℕ) (h : Header) (mark kind : ℕ) (but : LeftOut) (d : List ℕ) : Type 0 where
   pub long : length d ≡ maxNodes
-  pub layers : Layers (Others s t (sideWalk mark (sideFor kind)) false j (h .edges)) (λ x. x ≡ from) d
+  pub layers : Layers (Others s t (sideWalk mark (sideFor kind)) false but (h .edges)) (λ x. x ≡ but .near) d

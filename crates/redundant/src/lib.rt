@@ -1,6 +1,8 @@
-// Question 10 at an office: the rows that are redundant, each judged by a walk without it.
+// Question 10 at an office: the rows that are redundant, each judged by a walk without its step.
 use question::Question;
+use sheet::Edge;
 use sheet::Header;
+use walk::LeftOut;
 use walk::Walk;
 ghost use mathlib.Core.Path.{_≡_};
 ghost use mathlib.Core.Bool.{false};
@@ -13,7 +15,7 @@ ghost use Rattle.meaning.specs.Answers.{Says};
 ghost use Rattle.meaning.specs.Questions.{RedundantRow, RedundantAre};
 ghost use Rattle.question.specs.Checked.{AtOffice};
 ghost use Rattle.reach.specs.Found.{Finds};
-ghost use Rattle.redundant.specs.Pruned.{BothArranged, PastRow};
+ghost use Rattle.redundant.specs.Pruned.{BothArranged, stepOf, PastRow};
 
 // One number for each node row.
 const ROWS: usize = sheet::MAX_NODES as usize;
@@ -21,7 +23,17 @@ const ROWS: usize = sheet::MAX_NODES as usize;
 // The longest list, one word for each edge row.
 const LIST: usize = sheet::MAX_EDGES as usize;
 
-// How many steps lead to each node row from a row by the walk that judges a row of the kind, without that row j, and one; 0 where none do.
+// The step that a row makes.
+fn step_of(e: Edge) -> LeftOut
+    ensures { λ r. ⌜ r ≡ stepOf e ⌝ }
+{
+    LeftOut {
+        near: e.from,
+        far: e.to,
+    }
+}
+
+// How many steps lead to each node row from the row that a step leaves, by the walk that judges a row of the kind, without that step, and one; 0 where none do.
 fn past_row(
     sheet: &[u32],
     edges: &[u32],
@@ -32,11 +44,10 @@ fn past_row(
     grantnext: &[u32],
     banhead: &[u32],
     bannext: &[u32],
-    j: u32,
-    from: u32,
+    but: LeftOut,
 ) -> [u32; ROWS]
-    requires { ⌜ WellFormed (now sheet) (now edges) h × (0 < mark) × BothArranged (now sheet) (now edges) h mark (now granthead) (now grantnext) (now banhead) (now bannext) × (from < h .nodes) ⌝ }
-    ensures { λ r. ⌜ PastRow (now (sheet .entry)) (now (edges .entry)) h mark kind j from r ⌝ }
+    requires { ⌜ WellFormed (now sheet) (now edges) h × (0 < mark) × BothArranged (now sheet) (now edges) h mark (now granthead) (now grantnext) (now banhead) (now bannext) × (but .near < h .nodes) ⌝ }
+    ensures { λ r. ⌜ PastRow (now (sheet .entry)) (now (edges .entry)) h mark kind but r ⌝ }
 {
     if kind == 4 {
         let bans = Walk {
@@ -44,17 +55,17 @@ fn past_row(
             right: 4,
             deed: 0,
         };
-        return walk::reach(sheet, edges, h, bans, j, banhead, bannext, from);
+        return walk::reach(sheet, edges, h, bans, but, banhead, bannext, but.near);
     }
     let grants = Walk {
         mark: mark,
         right: 3,
         deed: 0,
     };
-    walk::reach(sheet, edges, h, grants, j, granthead, grantnext, from)
+    walk::reach(sheet, edges, h, grants, but, granthead, grantnext, but.near)
 }
 
-// Whether an edge row is marked and redundant at office k + 1: its to end is reached from its from end by the other rows.
+// Whether an edge row is marked and redundant at office k + 1: its to end is reached from its from end by other steps.
 fn is_redundant(
     sheet: &[u32],
     edges: &[u32],
@@ -84,8 +95,7 @@ fn is_redundant(
         grantnext,
         banhead,
         bannext,
-        j,
-        e.from,
+        step_of(e),
     );
     let to = e.to as usize;
     d[to] != 0
