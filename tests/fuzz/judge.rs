@@ -1,46 +1,16 @@
 //! The second program's own judgement as a library for C: what the counter's
 //! entries have to answer, byte for byte.
 
-// Much of the second program's modules is not used here.
+// Much of the second program's model is not used here.
 #![allow(dead_code)]
 
-#[path = "../second/answer.rs"]
-mod answer;
-#[path = "../second/bits.rs"]
-mod bits;
-#[path = "../second/closure.rs"]
-mod closure;
-#[path = "../second/contents.rs"]
-mod contents;
-#[path = "../second/draft.rs"]
-mod draft;
-#[path = "../second/judge.rs"]
-mod judge;
-#[path = "../second/office.rs"]
-mod office;
-#[path = "../second/outline.rs"]
-mod outline;
-#[path = "../second/random.rs"]
-mod random;
-#[path = "../second/reach.rs"]
-mod reach;
-#[path = "../second/redundant.rs"]
-mod redundant;
-#[path = "../second/sheet.rs"]
-mod sheet;
-#[path = "../second/survey.rs"]
-mod survey;
-#[path = "../second/take_out.rs"]
-mod take_out;
-#[path = "../second/trial.rs"]
-mod trial;
-#[path = "../second/way.rs"]
-mod way;
+#[path = "../second/model/mod.rs"]
+mod model;
 
-use answer::{Answer, Refusal};
-use judge::{judge_bytes, Verdict};
-use sheet::bytes_of;
-use way::by_counter;
+use model::answer::{Answer, Refusal};
+use model::counter::by_counter;
+use model::judge::{judge_bytes, Verdict};
+use model::sheet::bytes_of;
 
 /// number, sheet, row, value, count
 type Reply = [u32; 5];

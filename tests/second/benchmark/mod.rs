@@ -1,0 +1,130 @@
+//! The time of every operation on full sheets of every shape: what the trial
+//! program takes for a request, and what this program takes to judge it. The
+//! sheets and the requests are the same in every run.
+
+pub mod cases;
+pub mod sheets;
+pub mod stopwatch;
+
+use std::time::Duration;
+
+use crate::benchmark::cases::{bare, request, OPERATIONS};
+use crate::benchmark::stopwatch::{middle, milliseconds};
+use crate::generate::full::{Shape, SHAPES};
+use crate::run::options::Options;
+use crate::run::tally::Tally;
+use crate::trial::expect::expect;
+use crate::trial::request::{compare, Expected, Request};
+use crate::trial::talk::Talk;
+
+/// One operation on one shape.
+struct Figure {
+    /// What the reply said, in short.
+    reply: String,
+    /// Of the trial program; nothing where a reply was wrong.
+    whole: Option<Duration>,
+    /// Of the whole, what is spent whether or not a sheet is looked at.
+    bare: Option<Duration>,
+    judged: Duration,
+}
+
+struct Line {
+    title: &'static str,
+    figures: Vec<Figure>,
+}
+
+pub fn run(options: &Options) -> Tally {
+    let mut tally = Tally::default();
+    match measure_all(options, &mut tally) {
+        Ok(lines) => print(&lines),
+        Err(fault) => tally.test(&format!("the trial: {fault}"), false),
+    }
+    tally
+}
+
+fn measure_all(options: &Options, tally: &mut Tally) -> Result<Vec<Line>, String> {
+    let mut talk = Talk::open(&options.command)?;
+    let mut lines = Vec::new();
+    for (operation, title) in OPERATIONS {
+        if options.only.has(operation) {
+            let one = |shape: Shape| figure(&mut talk, tally, operation, shape);
+            let figures = SHAPES.into_iter().map(one).collect::<Result<_, _>>()?;
+            lines.push(Line { title, figures });
+        }
+    }
+    talk.close()?;
+    Ok(lines)
+}
+
+fn figure(
+    talk: &mut Talk,
+    tally: &mut Tally,
+    operation: u32,
+    shape: Shape,
+) -> Result<Figure, String> {
+    let request = request(operation, shape);
+    let bare = bare(&request);
+    let expected = expect(&request);
+    let name = format!("operation {operation} on {shape:?}");
+    Ok(Figure {
+        reply: in_short(&expected),
+        whole: asked(talk, tally, &name, &request, &expected)?,
+        bare: asked(talk, tally, &format!("{name}, refused at once"), &bare, &expect(&bare))?,
+        judged: judged(&request)?,
+    })
+}
+
+/// The first reply is compared and not timed: an emulator translates a piece of code
+/// when it is first used.
+fn asked(
+    talk: &mut Talk,
+    tally: &mut Tally,
+    name: &str,
+    request: &Request,
+    expected: &Expected,
+) -> Result<Option<Duration>, String> {
+    let bytes = request.bytes();
+    let reply = talk.ask(&bytes, request.out_len)?;
+    let differences = compare(expected, &reply);
+    tally.test(&format!("{name}: {}", differences.join("; ")), differences.is_empty());
+    if !differences.is_empty() {
+        return Ok(None);
+    }
+    middle(|| talk.ask(&bytes, request.out_len).map(drop)).map(Some)
+}
+
+fn judged(request: &Request) -> Result<Duration, String> {
+    middle(|| {
+        std::hint::black_box(expect(std::hint::black_box(request)));
+        Ok(())
+    })
+}
+
+fn in_short(expected: &Expected) -> String {
+    let [number, _, _, value, count, ..] = expected.reply;
+    match (number, value, count) {
+        (0, 0, 0) => "accepted".to_string(),
+        (0, 0, 1) => "1 word".to_string(),
+        (0, 0, count) => format!("{count} words"),
+        (0, value, 0) => format!("value {value}"),
+        (0, value, count) => format!("value {value}, count {count}"),
+        (number, ..) => format!("refused {number}"),
+    }
+}
+
+fn print(lines: &[Line]) {
+    let net = |figure: &Figure| Some(figure.whole?.saturating_sub(figure.bare?));
+    let told = |time: Option<Duration>| time.map_or("wrong reply".to_string(), milliseconds);
+    table("The trial program, bare request taken off, ms", lines, |figure| told(net(figure)));
+    table("Its bare request, ms", lines, |figure| told(figure.bare));
+    table("The second program, ms", lines, |figure| milliseconds(figure.judged));
+    table("What came back", lines, |figure| figure.reply.clone());
+}
+
+fn table(title: &str, lines: &[Line], cell: impl Fn(&Figure) -> String) {
+    println!("\n| {title} | long chain | ring | star | dense |\n|---|---|---|---|---|");
+    for line in lines {
+        let cells: Vec<String> = line.figures.iter().map(&cell).collect();
+        println!("| {} | {} |", line.title, cells.join(" | "));
+    }
+}

@@ -1,0 +1,144 @@
+//! What is put to the trial, case by case. A case of a check follows from the
+//! seed and its number alone; the questions come after the checks, 5 to 10 after
+//! 1 to 4, then the lookup, then joining and taking out, then the other ways to
+//! questions 1 to 3, so their numbers follow from how many there are before them.
+
+use crate::cases::checks::Checks;
+use crate::cases::series::{Made, Series};
+use crate::cases::{joins, lookups, questions, surveys, ways};
+use crate::goals;
+use crate::goals::coverage::{self, Cell};
+use crate::trial::expect::expect;
+use crate::trial::request::{Expected, Request};
+
+/// What is remembered of a case while its reply is on the way.
+pub struct About {
+    pub number: usize,
+    pub kind: &'static str,
+    pub name: String,
+    pub operation: u32,
+    pub cell: Cell,
+    /// What a question meets of its coverage.
+    pub goals: Vec<String>,
+    /// The judge against what a named case says, or against the way a sheet
+    /// was made: a slip of this program, not of the trial.
+    pub own_fault: Option<String>,
+}
+
+impl About {
+    /// Cases that are neither named nor aimed have their kind alone.
+    pub fn title(&self) -> String {
+        match self.name.as_str() {
+            "" => self.kind.to_string(),
+            name => format!("{}: {name}", self.kind),
+        }
+    }
+}
+
+pub struct Case {
+    pub about: About,
+    pub request: Request,
+    pub expected: Expected,
+}
+
+/// How many random cases there are: of the checks, of questions 1 to 4, of 5 to
+/// 10, of the lookup, of joining and taking out, and of the other ways to
+/// questions 1 to 3.
+#[derive(Clone, Copy, Default)]
+pub struct Counts {
+    pub checks: usize,
+    pub questions: usize,
+    pub surveys: usize,
+    pub lookups: usize,
+    pub joins: usize,
+    pub ways: usize,
+}
+
+impl Counts {
+    /// At least so many in all, with shares that give each operation some, and the
+    /// slower ones fewer.
+    pub fn of_long_run(total: usize) -> Counts {
+        let share = |percent: usize| (total * percent).div_ceil(100);
+        Counts {
+            checks: share(14),
+            questions: share(22),
+            surveys: share(26),
+            lookups: share(6),
+            joins: share(12),
+            ways: share(20),
+        }
+    }
+}
+
+pub struct Plan {
+    checks: Checks,
+    /// Questions 1 to 4, 5 to 10, the lookup, joining and taking out, the other ways.
+    series: [Series; 5],
+}
+
+impl Plan {
+    pub fn new(seed: u64, counts: Counts) -> Plan {
+        Plan {
+            checks: Checks::new(seed, counts.checks),
+            series: [
+                questions::series(seed, counts.questions),
+                surveys::series(seed, counts.surveys),
+                lookups::series(seed, counts.lookups),
+                joins::series(seed, counts.joins),
+                ways::series(seed, counts.ways),
+            ],
+        }
+    }
+
+    /// Where the cases of a series begin.
+    fn before(&self, series: usize) -> usize {
+        self.checks.len() + self.series[..series].iter().map(Series::len).sum::<usize>()
+    }
+
+    pub fn before_questions(&self) -> usize {
+        self.before(0)
+    }
+
+    pub fn before_surveys(&self) -> usize {
+        self.before(1)
+    }
+
+    pub fn before_lookups(&self) -> usize {
+        self.before(2)
+    }
+
+    pub fn before_joins(&self) -> usize {
+        self.before(3)
+    }
+
+    pub fn before_ways(&self) -> usize {
+        self.before(4)
+    }
+
+    pub fn len(&self) -> usize {
+        self.before(self.series.len())
+    }
+
+    pub fn case(&self, number: usize) -> Case {
+        match (0..self.series.len()).rev().find(|&at| self.before(at) <= number) {
+            Some(at) => asked_case(number, self.series[at].case(number - self.before(at))),
+            None => self.checks.case(number),
+        }
+    }
+}
+
+fn asked_case(number: usize, (kind, name, request, own_fault): Made) -> Case {
+    let mut case = judged(number, kind, name, request);
+    case.about.goals = goals::met(&case.request, &case.expected);
+    case.about.own_fault = own_fault;
+    case
+}
+
+/// A case with what is expected of it.
+pub fn judged(number: usize, kind: &'static str, name: String, request: Request) -> Case {
+    let expected = expect(&request);
+    let cell = coverage::cell(&request, &expected);
+    let operation = request.operation;
+    let about = About { number, kind, name, operation, cell, goals: Vec::new(), own_fault: None };
+    Case { about, request, expected }
+}

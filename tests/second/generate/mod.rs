@@ -1,0 +1,23 @@
+//! Sheets and what is asked of them, drawn by chance: valid sheets of many shapes,
+//! full ones, pairs that have something in common, sheets damaged on purpose or
+//! spoiled without aim, lists that are paths or nearly. What each of them is worth
+//! is for the model to say.
+
+pub mod cast;
+pub mod damage;
+pub mod desk;
+pub mod draft;
+pub mod dress;
+pub mod full;
+pub mod inquiry;
+pub mod lists;
+pub mod longest;
+pub mod make;
+pub mod marks;
+pub mod outline;
+pub mod pairs;
+pub mod random;
+pub mod scene;
+pub mod scramble;
+pub mod throng;
+pub mod unions;

@@ -1,0 +1,22 @@
+//! What a sheet is and what it means, from the documents alone: the independent
+//! program that everything else here asks. It reads and judges words and bytes,
+//! answers the ten questions, looks up, joins and takes out. Nothing of it knows
+//! the trial program, or chance.
+
+pub mod answer;
+pub mod bits;
+pub mod closure;
+pub mod contents;
+pub mod counter;
+pub mod join;
+pub mod judge;
+pub mod limits;
+pub mod lookup;
+pub mod marks;
+pub mod office;
+pub mod place;
+pub mod reach;
+pub mod redundant;
+pub mod sheet;
+pub mod survey;
+pub mod take_out;

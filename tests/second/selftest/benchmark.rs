@@ -1,0 +1,91 @@
+//! Tests that the benchmarks time what they say: full sheets, and searches that
+//! find nothing to stop at.
+
+use std::time::Duration;
+
+use crate::benchmark::cases::{bare, request, OPERATIONS};
+use crate::benchmark::stopwatch::{middle, milliseconds};
+use crate::generate::full::{Shape, SHAPES};
+use crate::generate::longest::MOST_CATEGORIES;
+use crate::model::answer::{ANSWER, JOINT, LISTED, WITNESS};
+use crate::model::judge::{judge_words, ACCEPTED};
+use crate::model::limits::{MOST_EDGES, MOST_NODES};
+use crate::model::sheet::{is_full, words_of};
+use crate::model::survey::*;
+use crate::run::tally::Tally;
+use crate::trial::expect::expect;
+
+pub fn run(tally: &mut Tally) {
+    for (operation, title) in OPERATIONS {
+        for shape in SHAPES {
+            requests(tally, operation, shape, &format!("benchmark of {title}, {shape:?}"));
+        }
+    }
+    times(tally);
+}
+
+fn requests(tally: &mut Tally, operation: u32, shape: Shape, name: &str) {
+    let request = request(operation, shape);
+    let words = words_of(&request.first);
+    tally.test(&format!("{name}: the sheet is valid"), judge_words(&words) == ACCEPTED);
+    tally.test(&format!("{name}: the sheet is full"), is_full(&words));
+    let bare = expect(&bare(&request));
+    tally.test(&format!("{name}: a wrong form is refused"), bare.reply[..3] == [2, 1, 0]);
+    let said = expect(&request).reply;
+    let (number, value, count) = wanted(operation, shape);
+    let same = said[..5] == [number, 0, 0, value, count];
+    tally.test(&format!("{name}: said {said:?}"), same);
+}
+
+/// Refusal, value and count, worked out by hand from the way the sheets are made.
+fn wanted(operation: u32, shape: Shape) -> (u32, u32, u32) {
+    let persons = if shape == Shape::Dense { 452 } else { 250 };
+    let nodes = match shape {
+        Shape::Chain | Shape::Ring => MOST_NODES as u32 - 7 + 3,
+        Shape::Star => 6,
+        Shape::Dense => 50 + 3,
+    };
+    match operation {
+        ANSWER => (0, 3, 0),
+        JOINT => (0, 1, 1),
+        WITNESS => (0, 0, 2 * nodes),
+        LISTED => (0, 1, 0),
+        IN_CATEGORY | GRANTED => (0, 0, persons),
+        NOT_GRANTED => (0, 0, 1),
+        BOTH | TWO_DEEDS => (26, 0, 0),
+        REDUNDANT => (0, 0, redundant(shape)),
+        _ => (0, 0, 0),
+    }
+}
+
+/// In the line and the ring every containment that leaves out some of it, and in
+/// the ring also its steps but for the two at its ends and the one that closes it.
+/// In the star the members, grants and bans. In the crowd the steps back, and the
+/// first person's members.
+fn redundant(shape: Shape) -> u32 {
+    let (steps, edges) = (MOST_CATEGORIES - 1, MOST_EDGES as u32);
+    let short = edges - steps - 3;
+    match shape {
+        Shape::Chain => short,
+        Shape::Ring => short - 1 + steps - 2,
+        Shape::Star => edges - 2 * steps - 1,
+        Shape::Dense => 55 * 54 / 2 + 53,
+    }
+}
+
+fn times(tally: &mut Tally) {
+    let mut turns = 0;
+    let fails_at_last = middle(|| {
+        turns += 1;
+        if turns == 3 {
+            Err(turns)
+        } else {
+            Ok(())
+        }
+    });
+    tally.test("a time that cannot be taken is not told", fails_at_last == Err(3));
+    for (micros, wanted) in [(9_994, "9.99"), (10_040, "10.0"), (123_456, "123")] {
+        let said = milliseconds(Duration::from_micros(micros));
+        tally.test(&format!("{micros} microseconds are {wanted} ms"), said == wanted);
+    }
+}

@@ -1,0 +1,86 @@
+//! What the trial program has to reply to a request, word for word, from what the
+//! model says.
+
+use crate::model::answer::{answer, is_question, Answer, Refusal};
+use crate::model::counter::by_counter;
+use crate::model::join::join;
+use crate::model::judge::{judge_bytes, judge_words, Verdict};
+use crate::model::limits::WORD;
+use crate::model::lookup::{lookup, Wanted};
+use crate::model::sheet::{words_of, Row};
+use crate::model::take_out::take_out;
+use crate::trial::operation::{
+    way_of, Way, CHECK_BYTES, CHECK_WORDS, JOIN, LOOKUP, TAKE_OUT, UNKNOWN,
+};
+use crate::trial::request::{Expected, Request};
+
+pub fn expect(request: &Request) -> Expected {
+    if let Some((way, question)) = way_of(request.operation) {
+        return told(request, outcome(request, way, question));
+    }
+    let (first, second) = (words_of(&request.first), words_of(&request.second));
+    let (numbers, room) = (&request.numbers, request.out_len);
+    match request.operation {
+        CHECK_WORDS => checked(request, judge_words(&first)),
+        CHECK_BYTES => checked(request, judge_bytes(&request.first)),
+        LOOKUP => {
+            let found = lookup(wanted(request), &first, &second);
+            told(request, found.map(|row| part(&row, room)))
+        }
+        JOIN => told(request, join(&first, &second, room)),
+        TAKE_OUT => told(request, take_out(&first, numbers[0], room)),
+        question if is_question(question) => {
+            told(request, answer(question, numbers, &first, &second, room))
+        }
+        _ => told(request, Err(Refusal { number: UNKNOWN, sheet: 0, row: 0 })),
+    }
+}
+
+/// Neither check writes, so the output keeps its fill.
+fn checked(request: &Request, verdict: Verdict) -> Expected {
+    told(
+        request,
+        match verdict {
+            Verdict { number: 0, .. } => Ok(Answer::default()),
+            Verdict { number, row } => Err(Refusal { number, sheet: 1, row }),
+        },
+    )
+}
+
+/// A question asked another way.
+pub fn outcome(request: &Request, way: Way, question: u32) -> Result<Answer, Refusal> {
+    let (numbers, room) = (&request.numbers, request.out_len);
+    match way {
+        Way::Opened => answer(question, numbers, &words_of(&request.first), &[], room),
+        Way::Counter => by_counter(question, numbers, &request.first, WORD * room),
+    }
+}
+
+/// The identity that a lookup names.
+pub fn wanted(request: &Request) -> Wanted {
+    let [sort, number, variant, ..] = request.numbers;
+    [sort, number, variant]
+}
+
+/// The whole reply: a refusal leaves the fill, and a success leaves it past its
+/// result.
+pub fn told(request: &Request, outcome: Result<Answer, Refusal>) -> Expected {
+    let mut output = vec![request.fill; request.out_len];
+    let head = match outcome {
+        Ok(Answer { value, count, extras: [one, other], written }) => {
+            output[..written.len()].copy_from_slice(&written);
+            [0, 0, 0, value, count, one, other]
+        }
+        Err(refusal) => [refusal.number, refusal.sheet, refusal.row, 0, 0, 0, 0],
+    };
+    let [number, sheet, row, value, count, one, other] = head;
+    let room = request.out_len as u32;
+    Expected { reply: [number, sheet, row, value, count, one, other, room], output }
+}
+
+/// The lookup itself has no output: the trial counts the part that it gives, and
+/// copies as much of it as there is room for.
+pub fn part(row: &Row, room: usize) -> Answer {
+    let written = row.iter().copied().take(room).collect();
+    Answer { count: row.len() as u32, written, ..Answer::default() }
+}
