@@ -1,26 +1,125 @@
-/* What the parts of the counter program offer one another. */
+/* A desk's question: what is asked, of which files, and how the verbs answer. */
 #ifndef DESK_H
 #define DESK_H
 
-#include <stdbool.h>
-#include <stddef.h>
-#include <stdint.h>
+#include "rows.h"
 
-/* number.c: whether the word is a number from 0 to 4294967295 in decimal digits and nothing else; if so, the number. */
-bool read_number(const char *word, uint32_t *number);
+/* The exit statuses. */
+enum { ANSWERED = 0, REFUSED = 1, BAD_USAGE = 2, UNWRITTEN = 3 };
 
-/* file.c: the file's bytes, as many as there is room for; none, and a line on standard error, where it can't be read. */
-size_t read_file(const char *path, uint8_t *bytes, size_t room);
+/* A typed path of more nodes than any path has is kept up to here: it is no path either. */
+enum { TYPED_NODES = TORMUKAI_NODES + 1 };
 
-/* refusal.c: the table's own words for a refusal's number. */
-const char *refusal_sentence(uint32_t number);
+/* A verb's most files, arguments and refusals. */
+enum { FILES = 2, ARGUMENTS = 8, REFUSALS = 8 };
 
-/* refusal.c: prints a refusal with its number, its place where it has one, and its sentence. */
-void tell_refusal(uint32_t number, uint32_t sheet, uint32_t row);
+/* A file's bytes: one more than any sheet has, so that a longer file that is cut here gets 33, as it would whole. */
+typedef struct File {
+    const char *name;
+    size_t length;
+    uint8_t bytes[TORMUKAI_FILE_BYTES + 1];
+} File;
 
-/* answer.c: prints an answer, a joint answer with the office that decides, and a path of so many bytes. */
-void tell_answer(uint32_t value);
-void tell_joint_answer(uint32_t value, uint32_t office);
-void tell_path(const uint8_t *bytes, size_t count);
+/* The nodes that were typed for `path`. A type of 0 was left out. */
+typedef struct TypedPath {
+    size_t count;
+    Identity nodes[TYPED_NODES];
+} TypedPath;
+
+/* What was typed. What a verb does not ask for is 0. */
+typedef struct Asked {
+    const char *result; /* OUT */
+    uint32_t office;
+    uint32_t rule;
+    bool kind_given; /* `draw` can be asked without a question */
+    uint32_t kind;
+    uint32_t person;
+    uint32_t category;
+    uint32_t deed;
+    uint32_t other_deed;
+    uint32_t folio;
+    Identity identity;
+    TypedPath path;
+} Asked;
+
+/* All that a verb's function gets. The named files were read; where the verb has one FILE, the sheet has its words. */
+typedef struct Desk {
+    const struct Verb *verb;
+    Asked asked;
+    Writer out;
+    File files[FILES];
+    Sheet sheet;
+} Desk;
+
+/* What an argument is. The table in arguments.c says how each is called in a usage line, and how it is read. */
+typedef enum Argument {
+    NO_ARGUMENT,
+    SHEET,
+    FIRST,
+    SECOND,
+    RESULT,
+    OFFICE,
+    RULE,
+    KIND_OF_PATH,
+    PERSON,
+    CATEGORY,
+    DEED,
+    OTHER_DEED,
+    FOLIO,
+    TYPE_OF_NODE,
+    IDENTITY,
+    NODES /* as many as there are, at least one; always the last */
+} Argument;
+
+typedef struct Verb {
+    const char *name;
+    Argument arguments[ARGUMENTS];
+    size_t optional; /* so many of the last arguments may be left out, all together */
+    int (*serve)(Desk *desk);
+    uint32_t refusals[REFUSALS]; /* what it can refuse beside 33 and 1 to 17, in the order in which they are tried */
+    const char *summary;         /* one line of `counter --help` */
+    const char *tells;           /* what `counter VERB --help` says under the usage line */
+    const char *example;         /* arguments, run in the folder sheets/ */
+    const char *prints;          /* all that the example prints */
+} Verb;
+
+/* table.c: the verbs, ended by one without a name. */
+extern const Verb verbs[];
+
+/* reply.c: begins the reply, so it prints first, once. Tells the refusal and returns true, or returns false where there is none
+ * (number 0). */
+bool refused(Desk *desk, TormukaiRefusal refusal);
+void end_reply(Desk *desk);
+TormukaiRefusal refusal_of(TormukaiAnswer answer);
+
+/* file.c: reads the named file's bytes; none, and a line on standard error, where it can't be read. */
+void read_file(File *file);
+
+/* file.c: the file's words; 33 where it has none. */
+TormukaiRefusal open_sheet(const File *file, Sheet *sheet);
+
+/* result.c: writes the file whole or leaves it as it was. False, and a line on standard error, where it can't be written. */
+bool write_result(const char *name, const uint8_t *bytes, size_t length);
+
+/* questions.c: 'undetermined', 'granted', 'banned', 'both'. */
+const char *answer_name(uint32_t value);
+
+/* One function a verb. Each returns the exit status. */
+int check(Desk *desk);
+int answer(Desk *desk);
+int joint(Desk *desk);
+int witness(Desk *desk);
+int path(Desk *desk);
+int persons(Desk *desk);
+int holders(Desk *desk);
+int unreached(Desk *desk);
+int conflict(Desk *desk);
+int duties(Desk *desk);
+int redundant(Desk *desk);
+int find(Desk *desk);
+int join(Desk *desk);
+int take(Desk *desk);
+int show(Desk *desk);
+int draw(Desk *desk);
 
 #endif

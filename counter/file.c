@@ -1,25 +1,37 @@
-/* The bytes of a sheet's file. */
+/* The bytes of a sheet's file, and its words. */
 #include "desk.h"
 
 #include <errno.h>
 #include <stdio.h>
 #include <string.h>
 
-static size_t unreadable(const char *path)
+static void unreadable(File *file)
 {
-    fprintf(stderr, "counter: %s: %s; it counts as a file of no bytes\n", path, strerror(errno));
-    return 0;
+    fprintf(stderr, "counter: %s: %s; it counts as an empty file\n", file->name, strerror(errno));
+    file->length = 0;
 }
 
-/* A folder opens, and fails only when it is read. What was read before a failure is no file, so none of it counts. */
-size_t read_file(const char *path, uint8_t *bytes, size_t room)
+/* A folder opens, and fails only when it is read. What was read before a failure is no file, so none of it counts. Without a
+ * buffer no more is taken from a pipe than is read. */
+void read_file(File *file)
 {
-    FILE *file = fopen(path, "rb");
-    if (file == NULL)
-        return unreadable(path);
-    size_t length = fread(bytes, 1, room, file);
-    if (ferror(file))
-        length = unreadable(path);
-    fclose(file);
-    return length;
+    bool standard = strcmp(file->name, "-") == 0;
+    FILE *stream = standard ? stdin : fopen(file->name, "rb");
+    if (stream == NULL) {
+        unreadable(file);
+        return;
+    }
+    setvbuf(stream, NULL, _IONBF, 0);
+    file->length = fread(file->bytes, 1, sizeof file->bytes, stream);
+    if (ferror(stream))
+        unreadable(file);
+    if (!standard)
+        fclose(stream);
+}
+
+TormukaiRefusal open_sheet(const File *file, Sheet *sheet)
+{
+    TormukaiRefusal refusal = tormukai_words_of_file(file->bytes, file->length, sheet->words, TORMUKAI_SHEET_WORDS);
+    sheet->length = refusal.number == 0 ? file->length / 4 : 0;
+    return refusal;
 }

@@ -1,14 +1,16 @@
 /* The rights sheet of a ship register, from C and C++.
  *
- * The functions are those of the static library `libcounter.a`, which is proved: for every input each returns, and its
- * result and what it writes are what its statement in docs/STATEMENTS.md says. It is x86-64 code.
+ * The functions are those of the static library `libtormukai.a`. All but one are proved: for every input each returns, and its
+ * result and what it writes are what its statement in docs/STATEMENTS.md says. The exception is `tormukai_refusal_text`, a
+ * table in C. The library is x86-64 code.
  *
  * A FILE is a sheet's bytes as they stand on disk, each word four bytes, low byte first. A SHEET is its words. Any bytes and
  * any words may be passed, and any numbers: what is wrong with them is a refusal.
  *
- * A REFUSAL has the number of the table of refusals and a place: for 33, 1 to 17 and 28 the sheet (1 where there is one
- * sheet), and for 6 to 17 also the row's index in its table, from 0. Every other part of a refused result is 0, and nothing
- * is written. Where several numbers apply, it is the first in the table's order, and each comment below names them in it.
+ * A REFUSAL has the number of the table of refusals (docs/RULES.md) and a place: for 33, 1 to 17 and 28 the sheet (1 where
+ * there is one sheet), and for 6 to 17 also the row's index in its table, from 0. Every other part of a refused result is 0,
+ * and nothing is written. Where several numbers apply, it is the first in the table's order, and each comment below names them
+ * in it.
  *
  * A SUCCESS has number, sheet and row 0. It writes the words (or bytes) of its result from the output's start, and leaves
  * the rest of the output as it was. An empty list is a success of count 0.
@@ -27,15 +29,39 @@
 extern "C" {
 #endif
 
+/* The library's version. */
+#define TORMUKAI_VERSION "0.2.0"
+
 /* The longest sheet, in words and in bytes of its file: 6 + 4 * 512 + 4 * 2048 words. */
 #define TORMUKAI_SHEET_WORDS 10246
 #define TORMUKAI_FILE_BYTES 40984
 
-/* Outputs that no result outgrows: a witness in bytes (512 nodes of two words), a list of persons or of folios, a list of
- * edge rows. With them 25 does not occur. */
-#define TORMUKAI_WITNESS_BYTES 4096
+/* Outputs that no result outgrows: a list of persons or of folios, a list of edge rows, and a witness of 512 nodes of two
+ * words, in words and in bytes. With them 25 does not occur. */
 #define TORMUKAI_NODES 512
 #define TORMUKAI_EDGES 2048
+#define TORMUKAI_WITNESS_WORDS 1024
+#define TORMUKAI_WITNESS_BYTES 4096
+
+/* The words of a header, of a node row (type, number, variant, offices) and of an edge row (kind, from row, to row, offices).
+ * In a sheet that passed the check the node rows follow the header, and the edge rows follow the node rows. */
+#define TORMUKAI_HEADER_WORDS 6
+#define TORMUKAI_NODE_WORDS 4
+#define TORMUKAI_EDGE_WORDS 4
+
+/* Node types. */
+#define TORMUKAI_PERSON 1
+#define TORMUKAI_CATEGORY 2
+#define TORMUKAI_DEED 3
+#define TORMUKAI_FOLIO 4
+
+/* Edge kinds: a person in a category, a category contained in another, a category's grant or ban of a deed, a deed that
+ * applies to a folio. */
+#define TORMUKAI_EDGE_MEMBER 1
+#define TORMUKAI_EDGE_WITHIN 2
+#define TORMUKAI_EDGE_GRANT 3
+#define TORMUKAI_EDGE_BAN 4
+#define TORMUKAI_EDGE_APPLIES 5
 
 /* Answers. */
 #define TORMUKAI_UNDETERMINED 0
@@ -51,6 +77,39 @@ extern "C" {
 /* The kinds of a path. Any number but 0 asks for a ban. */
 #define TORMUKAI_GRANT 0
 #define TORMUKAI_BAN 1
+
+/* Refusal numbers, in the order in which they are tried. */
+#define TORMUKAI_REFUSED_FILE_LENGTH 33
+#define TORMUKAI_REFUSED_UNDER_SIX_WORDS 1
+#define TORMUKAI_REFUSED_FORM 2
+#define TORMUKAI_REFUSED_OFFICE_COUNT 3
+#define TORMUKAI_REFUSED_COUNTS 4
+#define TORMUKAI_REFUSED_OFFSET_OR_LENGTH 5
+#define TORMUKAI_REFUSED_NODE_TYPE 6
+#define TORMUKAI_REFUSED_NUMBER_OR_VARIANT 7
+#define TORMUKAI_REFUSED_NODE_OFFICES 8
+#define TORMUKAI_REFUSED_NODE_REPEATED 9
+#define TORMUKAI_REFUSED_NODE_ORDER 10
+#define TORMUKAI_REFUSED_EDGE_KIND 11
+#define TORMUKAI_REFUSED_EDGE_END 12
+#define TORMUKAI_REFUSED_END_TYPES 13
+#define TORMUKAI_REFUSED_WITHIN_ITSELF 14
+#define TORMUKAI_REFUSED_EDGE_OFFICES 15
+#define TORMUKAI_REFUSED_EDGE_REPEATED 16
+#define TORMUKAI_REFUSED_EDGE_ORDER 17
+#define TORMUKAI_REFUSED_OFFICE 20
+#define TORMUKAI_REFUSED_RULE 27
+#define TORMUKAI_REFUSED_UNKNOWN_PERSON 21
+#define TORMUKAI_REFUSED_UNKNOWN_DEED 22
+#define TORMUKAI_REFUSED_UNKNOWN_CATEGORY 24
+#define TORMUKAI_REFUSED_UNKNOWN_FOLIO 23
+#define TORMUKAI_REFUSED_EQUAL_DEEDS 31
+#define TORMUKAI_REFUSED_IN_NEITHER_SHEET 32
+#define TORMUKAI_REFUSED_NOT_ONE_OFFICE 28
+#define TORMUKAI_REFUSED_UNION_NODES 29
+#define TORMUKAI_REFUSED_UNION_EDGES 30
+#define TORMUKAI_REFUSED_NO_SUCH_PATH 26
+#define TORMUKAI_REFUSED_OUTPUT_TOO_SHORT 25
 
 /* A refusal's number and place; 0 throughout where nothing is refused. */
 typedef struct TormukaiRefusal {
@@ -81,17 +140,38 @@ typedef struct TormukaiJoined {
     uint32_t sharededges;
 } TormukaiJoined;
 
-/* ---- Questions 1 to 3, on a file's bytes ---- */
+/* The sentence of the table of refusals for a number, as "unknown person" for 21; for a number that is not in the table a
+ * sentence that says so. The text is English, has no line end, and lives as long as the program. Refuses nothing.
+ * Stack: at most 128 bytes. */
+const char *tormukai_refusal_text(uint32_t number);
+
+/* ---- A file's bytes and a sheet's words ---- */
+
+/* The words of a file's bytes. It does not check that they are a sheet: that is tormukai_check.
+ * Answers: 0 throughout where they are written. Writes: file_length / 4 words.
+ * Refuses with: 33, 25 (out_length is under file_length / 4).
+ * Stack: at most 128 bytes. */
+TormukaiRefusal tormukai_words_of_file(const uint8_t *file, size_t file_length, uint32_t *out, size_t out_length);
+
+/* The bytes of words, as they stand in a file. It does not check that the words are a sheet.
+ * Answers: 0 throughout where they are written. Writes: 4 * sheet_length bytes.
+ * Refuses with: 25 (out_length is under 4 * sheet_length).
+ * Stack: at most 128 bytes. */
+TormukaiRefusal tormukai_file_of_words(const uint32_t *sheet, size_t sheet_length, uint8_t *out, size_t out_length);
+
+/* ---- On a file's bytes ---- */
 
 /* Question 1: may the person do the deed on the folio, at one office? Any variant of the deed serves.
  * Answers: value 0 undetermined, 1 granted, 2 banned, 3 both. Writes: nothing.
- * Refuses with: 33, 1 to 17, 20, 21, 22, 23. */
+ * Refuses with: 33, 1 to 17, 20, 21, 22, 23.
+ * Stack: at most 56,320 bytes. */
 TormukaiAnswer tormukai_answer(const uint8_t *file, size_t file_length, uint32_t office, uint32_t person, uint32_t deed,
                                uint32_t folio);
 
 /* Question 2: the joint answer of all the sheet's offices under rule 1 grant-first, 2 deny-first or 3 first-applicable.
  * Answers: value as in question 1; count the deciding office, 0 where undetermined. Writes: nothing.
- * Refuses with: 33, 1 to 17, 27, 21, 22, 23. */
+ * Refuses with: 33, 1 to 17, 27, 21, 22, 23.
+ * Stack: at most 56,320 bytes. */
 TormukaiAnswer tormukai_joint_answer(const uint8_t *file, size_t file_length, uint32_t rule, uint32_t person, uint32_t deed,
                                      uint32_t folio);
 
@@ -99,73 +179,119 @@ TormukaiAnswer tormukai_joint_answer(const uint8_t *file, size_t file_length, ui
  * the first in dictionary order of number and variant.
  * Answers: count the bytes written. Writes: the path, for each node its number and its variant, four bytes each, low byte
  * first: eight bytes a node, the person first, then the categories, the deed, the folio.
- * Refuses with: 33, 1 to 17, 20, 21, 22, 23, 26 (no such path), 25 (out_length is under the path's bytes). */
+ * Refuses with: 33, 1 to 17, 20, 21, 22, 23, 26 (no such path), 25 (out_length is under the path's bytes).
+ * Stack: at most 64,512 bytes. */
 TormukaiAnswer tormukai_witness(const uint8_t *file, size_t file_length, uint32_t office, uint32_t kind, uint32_t person,
                                 uint32_t deed, uint32_t folio, uint8_t *out, size_t out_length);
 
 /* The check of a file: is it a sheet?
- * Answers: 0 throughout where it is. Writes: nothing. Refuses with: 33, 1 to 17. */
+ * Answers: 0 throughout where it is. Writes: nothing. Refuses with: 33, 1 to 17.
+ * Stack: at most 41,472 bytes. */
 TormukaiRefusal tormukai_check_file(const uint8_t *file, size_t file_length);
 
-/* ---- All the rest, on a sheet's words ---- */
+/* Joins two files, each of a one-office sheet, into the file of their two-office sheet, as tormukai_join joins their words.
+ * The two inputs may be the same.
+ * Answers: as tormukai_join; words counts words, so 4 * words bytes are written. Writes: the joint sheet's file.
+ * Refuses with: 33 and 1 to 17 of the first, then of the second; 28 of the first, then of the second; 29, 30, 25.
+ * Stack: at most 132,096 bytes. */
+TormukaiJoined tormukai_join_files(const uint8_t *first, size_t first_length, const uint8_t *second, size_t second_length,
+                                   uint8_t *out, size_t out_length);
+
+/* ---- On a sheet's words ---- */
 
 /* The check of a sheet.
- * Answers: 0 throughout where it is one. Writes: nothing. Refuses with: 1 to 17. */
+ * Answers: 0 throughout where it is one. Writes: nothing. Refuses with: 1 to 17.
+ * Stack: at most 384 bytes. */
 TormukaiRefusal tormukai_check(const uint32_t *sheet, size_t sheet_length);
+
+/* Question 1, as tormukai_answer. Refuses with: 1 to 17, 20, 21, 22, 23.
+ * Stack: at most 15,360 bytes. */
+TormukaiAnswer tormukai_sheet_answer(const uint32_t *sheet, size_t sheet_length, uint32_t office, uint32_t person,
+                                     uint32_t deed, uint32_t folio);
+
+/* Question 2, as tormukai_joint_answer. Refuses with: 1 to 17, 27, 21, 22, 23.
+ * Stack: at most 15,360 bytes. */
+TormukaiAnswer tormukai_sheet_joint_answer(const uint32_t *sheet, size_t sheet_length, uint32_t rule, uint32_t person,
+                                           uint32_t deed, uint32_t folio);
+
+/* Question 3, as tormukai_witness, but the path comes as words.
+ * Answers: count the words written. Writes: the path, for each node its number and its variant, the person first.
+ * Refuses with: 1 to 17, 20, 21, 22, 23, 26 (no such path), 25.
+ * Stack: at most 19,456 bytes. */
+TormukaiAnswer tormukai_sheet_witness(const uint32_t *sheet, size_t sheet_length, uint32_t office, uint32_t kind,
+                                      uint32_t person, uint32_t deed, uint32_t folio, uint32_t *out, size_t out_length);
 
 /* Question 4: is the list some grant path (kind 0) or ban path (any other) for person, deed and folio at an office, shortest
  * or not? Two words a node, as question 3 writes them.
- * Answers: value 1 yes, 0 no. Writes: nothing. Refuses with: 1 to 17, 20; whatever else is wrong is a no. */
+ * Answers: value 1 yes, 0 no. Writes: nothing. Refuses with: 1 to 17, 20; whatever else is wrong is a no.
+ * Stack: at most 512 bytes. */
 TormukaiAnswer tormukai_is_path(const uint32_t *sheet, size_t sheet_length, uint32_t office, uint32_t kind, uint32_t person,
                                 uint32_t deed, uint32_t folio, const uint32_t *list, size_t list_length);
 
 /* Question 5: who is in a category at an office, directly or through containment?
- * Answers: count the words written. Writes: the persons' numbers, rising. Refuses with: 1 to 17, 20, 24, 25. */
+ * Answers: count the words written. Writes: the persons' numbers, rising. Refuses with: 1 to 17, 20, 24, 25.
+ * Stack: at most 62,464 bytes. */
 TormukaiAnswer tormukai_persons_in_category(const uint32_t *sheet, size_t sheet_length, uint32_t office, uint32_t category,
                                             uint32_t *out, size_t out_length);
 
 /* Question 6: who has a grant path for the deed and the folio at an office?
- * Answers: count the words written. Writes: the persons' numbers, rising. Refuses with: 1 to 17, 20, 22, 23, 25. */
+ * Answers: count the words written. Writes: the persons' numbers, rising. Refuses with: 1 to 17, 20, 22, 23, 25.
+ * Stack: at most 62,464 bytes. */
 TormukaiAnswer tormukai_persons_with_grant(const uint32_t *sheet, size_t sheet_length, uint32_t office, uint32_t deed,
                                            uint32_t folio, uint32_t *out, size_t out_length);
 
 /* Question 7: to which folios has no person a grant path by any deed, at an office?
- * Answers: count the words written. Writes: the folios' numbers, rising. Refuses with: 1 to 17, 20, 25. */
+ * Answers: count the words written. Writes: the folios' numbers, rising. Refuses with: 1 to 17, 20, 25.
+ * Stack: at most 56,320 bytes. */
 TormukaiAnswer tormukai_folios_out_of_reach(const uint32_t *sheet, size_t sheet_length, uint32_t office, uint32_t *out,
                                             size_t out_length);
 
 /* Question 8: the least triple that is both granted and banned at an office; persons are compared first, then deeds.
- * Answers: count 3. Writes: person, deed, folio. Refuses with: 1 to 17, 20, 26 (there is none), 25. */
+ * Answers: count 3. Writes: person, deed, folio. Refuses with: 1 to 17, 20, 26 (there is none), 25.
+ * Stack: at most 46,080 bytes. */
 TormukaiAnswer tormukai_least_triple(const uint32_t *sheet, size_t sheet_length, uint32_t office, uint32_t *out,
                                      size_t out_length);
 
 /* Question 9: the least person and folio with a grant path for each of two different deeds, at an office; persons are
  * compared first.
  * Answers: count 2. Writes: person, folio.
- * Refuses with: 1 to 17, 20, 22, 31 (the deeds are equal), 26 (there is none), 25. */
+ * Refuses with: 1 to 17, 20, 22, 31 (the deeds are equal), 26 (there is none), 25.
+ * Stack: at most 46,080 bytes. */
 TormukaiAnswer tormukai_least_holder(const uint32_t *sheet, size_t sheet_length, uint32_t office, uint32_t deed,
                                      uint32_t other, uint32_t *out, size_t out_length);
 
 /* Question 10: which edge rows are redundant at an office?
  * Answers: count the words written. Writes: their indices in the edge table, from 0, rising.
- * Refuses with: 1 to 17, 20, 25. */
+ * Refuses with: 1 to 17, 20, 25.
+ * Stack: at most 46,080 bytes. */
 TormukaiAnswer tormukai_redundant_edges(const uint32_t *sheet, size_t sheet_length, uint32_t office, uint32_t *out,
                                         size_t out_length);
 
 /* Joins two one-office sheets into a two-office sheet, equal identities and relations once. The two inputs may be the same.
  * Answers: the joint sheet's counts and how much is shared. Writes: the joint sheet.
- * Refuses with: 1 to 17 of the first, then of the second; 28 of the first, then of the second; 29, 30, 25. */
+ * Refuses with: 1 to 17 of the first, then of the second; 28 of the first, then of the second; 29, 30, 25.
+ * Stack: at most 9,216 bytes. */
 TormukaiJoined tormukai_join(const uint32_t *first, size_t first_length, const uint32_t *second, size_t second_length,
                              uint32_t *out, size_t out_length);
 
 /* Takes an office out of a sheet: its rows alone, their ends renumbered, as a sheet of one office.
- * Answers: count the words written. Writes: that sheet. Refuses with: 1 to 17, 20, 25. */
+ * Answers: count the words written. Writes: that sheet. Refuses with: 1 to 17, 20, 25.
+ * Stack: at most 2,496 bytes. */
 TormukaiAnswer tormukai_take_out(const uint32_t *sheet, size_t sheet_length, uint32_t office, uint32_t *out,
                                  size_t out_length);
 
+/* Where does the identity of this type (1 person, 2 category, 3 deed, 4 folio), number and variant stand in two sheets? The
+ * row itself is the caller's own: words 6 + 4 * count to 9 + 4 * count of that sheet.
+ * Answers: value the sheet that has it, 1 the first or 2 the second, the first where both have it; count its node row, from 0.
+ * Writes: nothing. Refuses with: 1 to 17 of the first, then of the second; 32 (neither has it).
+ * Stack: at most 640 bytes. */
+TormukaiAnswer tormukai_look_up(const uint32_t *first, size_t first_length, const uint32_t *second, size_t second_length,
+                                uint32_t type, uint32_t number, uint32_t variant);
+
 /* Does either of two sheets have the identity of this type (1 person, 2 category, 3 deed, 4 folio), number and variant?
  * Answers: 0 throughout where one has. Writes: nothing.
- * Refuses with: 1 to 17 of the first, then of the second; 32 (neither has it). */
+ * Refuses with: 1 to 17 of the first, then of the second; 32 (neither has it).
+ * Stack: at most 512 bytes. */
 TormukaiRefusal tormukai_look_up_refusal(const uint32_t *first, size_t first_length, const uint32_t *second,
                                          size_t second_length, uint32_t type, uint32_t number, uint32_t variant);
 

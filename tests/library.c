@@ -1,5 +1,5 @@
-/* Calls every function of the header as a program in C would, and prints all that comes back; tests/counter has the lines
- * that it must print. A word after each output shows that a result writes no more than its own words. */
+/* Calls every function of the header as a program in C would, and prints all that comes back; tests/desk/library.py has the
+ * lines that it must print. A word after each output shows that a result writes no more than its own words. */
 #include "tormukai.h"
 
 #include <inttypes.h>
@@ -21,26 +21,28 @@ static const uint32_t third[] = {1, 1, 6, 8, 6, 30, /* nodes */ 1, 1, 0, 1, 2, 2
                                  4, 6, 0, 1, /* edges */ 1, 0, 1, 1, 1, 0, 2, 1, 2, 1, 2, 1, 3, 2, 3, 1, 3, 2, 4, 1,
                                  4, 1, 4, 1, 5, 3, 5, 1, 5, 4, 5, 1};
 
-static uint32_t out[TORMUKAI_SHEET_WORDS];
+/* The joint sheet of the first two, and the first with a node row of no type; made at the start. */
+static uint32_t joint[70];
+static uint32_t damaged[LENGTH(first)];
 
-static void fill(void)
-{
-    memset(out, 0xff, sizeof out);
-}
+static const size_t n = LENGTH(first);
+static const size_t m = LENGTH(third);
+static uint32_t out[TORMUKAI_SHEET_WORDS + 2];
+static uint8_t *const out_bytes = (uint8_t *)out;
 
-static void say_words(const uint32_t *words, size_t count)
+static void say_words(size_t count)
 {
     for (size_t i = 0; i < count; i++)
-        printf(" %" PRIu32, words[i]);
+        printf(" %" PRIu32, out[i]);
     printf("\n");
+    memset(out, 0xff, sizeof out);
 }
 
 static void say(const char *name, TormukaiAnswer a, size_t shown)
 {
     printf("%s: %" PRIu32 " %" PRIu32 " %" PRIu32, name, a.number, a.sheet, a.row);
     printf(" %" PRIu32 " %" PRIu32 ";", a.value, a.count);
-    say_words(out, shown);
-    fill();
+    say_words(shown);
 }
 
 static void say_refusal(const char *name, TormukaiRefusal r)
@@ -48,74 +50,197 @@ static void say_refusal(const char *name, TormukaiRefusal r)
     printf("%s: %" PRIu32 " %" PRIu32 " %" PRIu32 "\n", name, r.number, r.sheet, r.row);
 }
 
+static void say_written(const char *name, TormukaiRefusal r, size_t shown)
+{
+    printf("%s: %" PRIu32 " %" PRIu32 " %" PRIu32 ";", name, r.number, r.sheet, r.row);
+    say_words(shown);
+}
+
 static void say_joined(const char *name, TormukaiJoined j, size_t shown)
 {
     printf("%s: %" PRIu32 " %" PRIu32 " %" PRIu32 " %" PRIu32, name, j.number, j.sheet, j.row, j.words);
     printf(" %" PRIu32 " %" PRIu32 " %" PRIu32 " %" PRIu32 ";", j.nodes, j.edges, j.sharednodes, j.sharededges);
-    say_words(out, shown);
+    say_words(shown);
 }
 
 /* The machine is x86-64, so a sheet's words in memory are the bytes of its file. */
-static void bytes(void)
+static const uint8_t *bytes(const uint32_t *words)
 {
-    const uint8_t *file = (const uint8_t *)first;
-    uint8_t *path = (uint8_t *)out;
+    return (const uint8_t *)words;
+}
+
+static void questions_of_a_file(void)
+{
+    const uint8_t *file = bytes(first);
     say("answer", tormukai_answer(file, sizeof first, 1, 11, 31, 42), 1);
-    say("joint_answer", tormukai_joint_answer(file, sizeof first, 3, 11, 31, 42), 1);
-    say("witness", tormukai_witness(file, sizeof first, 1, TORMUKAI_GRANT, 11, 31, 41, path, 40), 11);
-    say("witness of a ban", tormukai_witness(file, sizeof first, 1, 4294967295, 12, 31, 42, path, sizeof out), 11);
-    say("witness, a byte short", tormukai_witness(file, sizeof first, 1, TORMUKAI_GRANT, 11, 31, 41, path, 39), 1);
+    say("joint_answer", tormukai_joint_answer(file, sizeof first, TORMUKAI_FIRST_APPLICABLE, 11, 31, 42), 1);
+    say("witness", tormukai_witness(file, sizeof first, 1, TORMUKAI_GRANT, 11, 31, 41, out_bytes, 40), 11);
+    say("witness of a ban", tormukai_witness(file, sizeof first, 1, 4294967295, 12, 31, 42, out_bytes, sizeof out), 11);
+    say("witness, a byte short", tormukai_witness(file, sizeof first, 1, TORMUKAI_GRANT, 11, 31, 41, out_bytes, 39), 1);
     say_refusal("check_file", tormukai_check_file(file, sizeof first));
     say_refusal("check_file, cut", tormukai_check_file(file, sizeof first - 1));
+}
+
+static void files_and_words(void)
+{
+    static const uint8_t too_long[TORMUKAI_FILE_BYTES + 4];
+    static const uint8_t no_sheet[] = {1, 2, 3, 4};
+    static const uint32_t same_words[] = {0x04030201};
+    const uint8_t *file = bytes(first);
+    say_written("words_of_file", tormukai_words_of_file(file, sizeof first, out, n), n + 1);
+    say_written("words_of_file, no bytes", tormukai_words_of_file(file, 0, out, 0), 1);
+    say_written("words_of_file, no sheet", tormukai_words_of_file(no_sheet, 4, out, 1), 2);
+    say_written("words_of_file, a byte cut off", tormukai_words_of_file(file, sizeof first - 1, out, n), 1);
+    say_written("words_of_file, too long", tormukai_words_of_file(too_long, sizeof too_long, out, LENGTH(out)), 1);
+    say_written("words_of_file, too long before too short", tormukai_words_of_file(too_long, sizeof too_long, out, 0), 1);
+    say_written("words_of_file, a word short", tormukai_words_of_file(file, sizeof first, out, n - 1), 1);
+    say_written("file_of_words", tormukai_file_of_words(first, n, out_bytes, sizeof first), n + 1);
+    say_written("file_of_words, no words", tormukai_file_of_words(first, 0, out_bytes, 0), 1);
+    say_written("file_of_words, no sheet", tormukai_file_of_words(same_words, 1, out_bytes, 4), 2);
+    say_written("file_of_words, a byte short", tormukai_file_of_words(first, n, out_bytes, sizeof first - 1), 1);
+}
+
+static void joins_of_files(void)
+{
+    const uint8_t *a = bytes(first);
+    const uint8_t *b = bytes(second);
+    const uint8_t *bad = bytes(damaged);
+    const uint8_t *two = bytes(joint);
+    const size_t length = sizeof first;
+    say_joined("join_files", tormukai_join_files(a, length, b, sizeof second, out_bytes, sizeof joint), 71);
+    say_joined("join_files, the first cut", tormukai_join_files(a, 3, bad, length, out_bytes, sizeof out), 1);
+    say_joined("join_files, the second cut", tormukai_join_files(two, sizeof joint, b, 7, out_bytes, sizeof out), 1);
+    say_joined("join_files, the second damaged", tormukai_join_files(a, length, bad, length, out_bytes, 0), 1);
+    say_joined("join_files, two offices", tormukai_join_files(a, length, two, sizeof joint, out_bytes, sizeof out), 1);
+    say_joined("join_files, a byte short", tormukai_join_files(a, length, b, sizeof second, out_bytes, sizeof joint - 1), 1);
+}
+
+static void questions_of_a_sheet(void)
+{
+    say("sheet_answer", tormukai_sheet_answer(first, n, 1, 11, 31, 42), 1);
+    say("sheet_answer, office 2", tormukai_sheet_answer(first, n, 2, 11, 31, 42), 1);
+    say("sheet_joint_answer", tormukai_sheet_joint_answer(first, n, TORMUKAI_DENY_FIRST, 11, 31, 42), 1);
+    say("sheet_joint_answer, rule 4", tormukai_sheet_joint_answer(first, n, 4, 11, 31, 42), 1);
+    say("sheet_witness", tormukai_sheet_witness(first, n, 1, TORMUKAI_GRANT, 11, 31, 41, out, 10), 11);
+    say("sheet_witness of a ban", tormukai_sheet_witness(first, n, 1, 4294967295, 12, 31, 42, out, LENGTH(out)), 11);
+    say("sheet_witness, none", tormukai_sheet_witness(first, n, 1, TORMUKAI_GRANT, 11, 31, 42, out, 0), 1);
+    say("sheet_witness, a word short", tormukai_sheet_witness(first, n, 1, TORMUKAI_GRANT, 11, 31, 41, out, 9), 1);
 }
 
 static void lists(void)
 {
     const uint32_t path[] = {12, 0, 22, 0, 31, 1, 41, 0};
-    const size_t n = LENGTH(first);
-    const size_t m = LENGTH(third);
     say("is_path", tormukai_is_path(first, n, 1, TORMUKAI_GRANT, 12, 31, 41, path, LENGTH(path)), 0);
     say("is_path, a ban", tormukai_is_path(first, n, 1, TORMUKAI_BAN, 12, 31, 41, path, LENGTH(path)), 0);
     say("persons_in_category", tormukai_persons_in_category(first, n, 1, 22, out, 2), 3);
+    say("persons_in_category, a word short", tormukai_persons_in_category(first, n, 1, 22, out, 1), 1);
     say("persons_with_grant", tormukai_persons_with_grant(first, n, 1, 31, 41, out, 2), 3);
+    say("persons_with_grant, a word short", tormukai_persons_with_grant(first, n, 1, 31, 41, out, 1), 1);
     say("folios_out_of_reach", tormukai_folios_out_of_reach(first, n, 1, out, 1), 2);
+    say("folios_out_of_reach, no room", tormukai_folios_out_of_reach(first, n, 1, out, 0), 1);
     say("least_triple", tormukai_least_triple(third, m, 1, out, 3), 4);
+    say("least_triple, a word short", tormukai_least_triple(third, m, 1, out, 2), 1);
     say("least_holder", tormukai_least_holder(third, m, 1, 4, 5, out, 2), 3);
+    say("least_holder, a word short", tormukai_least_holder(third, m, 1, 4, 5, out, 1), 1);
     say("redundant_edges", tormukai_redundant_edges(third, m, 1, out, 1), 2);
     say("redundant_edges, no room", tormukai_redundant_edges(third, m, 1, out, 0), 1);
 }
 
-static void joins(void)
+static void two_sheets(void)
 {
-    const size_t n = LENGTH(first);
-    const size_t m = LENGTH(second);
-    uint32_t joint[70];
-    say_joined("join", tormukai_join(first, n, second, m, out, 70), 71);
-    memcpy(joint, out, sizeof joint);
-    fill();
+    const size_t b = LENGTH(second);
+    say_joined("join", tormukai_join(first, n, second, b, out, 70), 71);
+    say_joined("join, a word short", tormukai_join(first, n, second, b, out, 69), 1);
     say("take_out", tormukai_take_out(joint, 70, 2, out, 34), 35);
-    say_refusal("look_up_refusal", tormukai_look_up_refusal(second, m, first, n, 4, 41, 0));
-    say_refusal("look_up_refusal, a person", tormukai_look_up_refusal(second, m, first, n, 1, 41, 0));
+    say("take_out, a word short", tormukai_take_out(joint, 70, 2, out, 33), 1);
+    say("look_up", tormukai_look_up(second, b, first, n, TORMUKAI_FOLIO, 41, 0), 1);
+    say("look_up, in both", tormukai_look_up(second, b, first, n, TORMUKAI_DEED, 31, 2), 1);
+    say("look_up, a person", tormukai_look_up(second, b, first, n, TORMUKAI_PERSON, 41, 0), 1);
+    say("look_up, the second damaged", tormukai_look_up(first, n, damaged, n, TORMUKAI_PERSON, 11, 0), 1);
+    say_refusal("look_up_refusal", tormukai_look_up_refusal(second, b, first, n, TORMUKAI_FOLIO, 41, 0));
+    say_refusal("look_up_refusal, a person", tormukai_look_up_refusal(second, b, first, n, TORMUKAI_PERSON, 41, 0));
 }
 
-/* A node row of no type, told by each struct with its place. */
-static void refusals(void)
+/* The damaged sheet is refused by each, before an output that is too short or a number that is not there. */
+static void damages(void)
 {
-    uint32_t damaged[LENGTH(first)];
-    memcpy(damaged, first, sizeof damaged);
-    damaged[6 + 4 * 3] = 9;
-    say_refusal("check", tormukai_check(first, LENGTH(first)));
-    say_refusal("check, damaged", tormukai_check(damaged, LENGTH(damaged)));
-    say("take_out, damaged", tormukai_take_out(damaged, LENGTH(damaged), 1, out, 70), 1);
-    say_joined("join, damaged", tormukai_join(first, LENGTH(first), damaged, LENGTH(damaged), out, 70), 1);
+    say_refusal("check", tormukai_check(first, n));
+    say_refusal("check, damaged", tormukai_check(damaged, n));
+    say("sheet_answer, damaged", tormukai_sheet_answer(damaged, n, 9, 0, 0, 0), 1);
+    say("sheet_joint_answer, damaged", tormukai_sheet_joint_answer(damaged, n, 9, 0, 0, 0), 1);
+    say("sheet_witness, damaged", tormukai_sheet_witness(damaged, n, 9, TORMUKAI_BAN, 0, 0, 0, out, 0), 1);
+    say("is_path, damaged", tormukai_is_path(damaged, n, 9, TORMUKAI_BAN, 0, 0, 0, first, 0), 1);
+    say("persons_in_category, damaged", tormukai_persons_in_category(damaged, n, 9, 0, out, 0), 1);
+    say("persons_with_grant, damaged", tormukai_persons_with_grant(damaged, n, 9, 0, 0, out, 0), 1);
+    say("folios_out_of_reach, damaged", tormukai_folios_out_of_reach(damaged, n, 9, out, 0), 1);
+    say("least_triple, damaged", tormukai_least_triple(damaged, n, 9, out, 0), 1);
+    say("least_holder, damaged", tormukai_least_holder(damaged, n, 9, 0, 0, out, 0), 1);
+    say("redundant_edges, damaged", tormukai_redundant_edges(damaged, n, 9, out, 0), 1);
+    say("take_out, damaged", tormukai_take_out(damaged, n, 9, out, 0), 1);
+    say("look_up, damaged", tormukai_look_up(damaged, n, damaged, 0, 9, 0, 0), 1);
+    say_joined("join, damaged", tormukai_join(first, n, damaged, n, out, 0), 1);
+    say_refusal("look_up_refusal, damaged", tormukai_look_up_refusal(first, n, damaged, n, 9, 0, 0));
+}
+
+static void texts(void)
+{
+    for (uint32_t number = 0; number <= 35; number++)
+        printf("%" PRIu32 " %s\n", number, tormukai_refusal_text(number));
+    printf("%" PRIu32 " %s\n", (uint32_t)4294967295, tormukai_refusal_text(4294967295));
+}
+
+#define SAY_CONSTANT(name) printf("%s %d\n", #name, TORMUKAI_REFUSED_##name)
+
+static void constants(void)
+{
+    SAY_CONSTANT(FILE_LENGTH);
+    SAY_CONSTANT(UNDER_SIX_WORDS);
+    SAY_CONSTANT(FORM);
+    SAY_CONSTANT(OFFICE_COUNT);
+    SAY_CONSTANT(COUNTS);
+    SAY_CONSTANT(OFFSET_OR_LENGTH);
+    SAY_CONSTANT(NODE_TYPE);
+    SAY_CONSTANT(NUMBER_OR_VARIANT);
+    SAY_CONSTANT(NODE_OFFICES);
+    SAY_CONSTANT(NODE_REPEATED);
+    SAY_CONSTANT(NODE_ORDER);
+    SAY_CONSTANT(EDGE_KIND);
+    SAY_CONSTANT(EDGE_END);
+    SAY_CONSTANT(END_TYPES);
+    SAY_CONSTANT(WITHIN_ITSELF);
+    SAY_CONSTANT(EDGE_OFFICES);
+    SAY_CONSTANT(EDGE_REPEATED);
+    SAY_CONSTANT(EDGE_ORDER);
+    SAY_CONSTANT(OFFICE);
+    SAY_CONSTANT(RULE);
+    SAY_CONSTANT(UNKNOWN_PERSON);
+    SAY_CONSTANT(UNKNOWN_DEED);
+    SAY_CONSTANT(UNKNOWN_CATEGORY);
+    SAY_CONSTANT(UNKNOWN_FOLIO);
+    SAY_CONSTANT(EQUAL_DEEDS);
+    SAY_CONSTANT(IN_NEITHER_SHEET);
+    SAY_CONSTANT(NOT_ONE_OFFICE);
+    SAY_CONSTANT(UNION_NODES);
+    SAY_CONSTANT(UNION_EDGES);
+    SAY_CONSTANT(NO_SUCH_PATH);
+    SAY_CONSTANT(OUTPUT_TOO_SHORT);
 }
 
 int main(void)
 {
-    fill();
-    bytes();
+    tormukai_join(first, n, second, LENGTH(second), joint, LENGTH(joint));
+    memcpy(damaged, first, sizeof damaged);
+    damaged[TORMUKAI_HEADER_WORDS + TORMUKAI_NODE_WORDS * 3] = 9;
+    memset(out, 0xff, sizeof out);
+    printf("version: %s\n", TORMUKAI_VERSION);
+    questions_of_a_file();
+    files_and_words();
+    joins_of_files();
+    questions_of_a_sheet();
     lists();
-    joins();
-    refusals();
+    two_sheets();
+    damages();
+    texts();
+    constants();
     return fflush(stdout) == 0 ? 0 : 1;
 }

@@ -8,9 +8,9 @@ use lib.ListN.{length, take}
 use lib.Seq.{take-at}
 use Rattle.sheet.specs.declared.Refusal.{Refusal}
 use Rattle.sheet.specs.Limits.{maxWords}
-use Rattle.sheet.specs.Refusals.{none, refuse, _then_, Writes}
+use Rattle.sheet.specs.Refusals.{none, refuse, _then_, written, Writes}
 use Rattle.sheet.specs.Verdict.{verdict}
-use Rattle.sheet.proofs.Refusing.{refuse-some-is, refuse-none, refuse-none-is, refuse-good}
+use Rattle.sheet.proofs.Refusing.{refuse-some-is, refuse-none, refuse-none-is, refuse-good, then-some-is}
 use Rattle.sheet.proofs.Writing.{writes-room}
 use Rattle.files.specs.Bytes.{wordsOf, bytesFault, bytesVerdict}
 use Rattle.files.proofs.Words.{words-long, bytes-good}
@@ -21,22 +21,40 @@ use Rattle.counter.specs.Filed.{WasRead, afterFile}
 
 -- ---- reading
 
-module _ (file : List ℕ) (k : ℕ) (is : k ≡ bytesFault (length file)) where
-  -- 33: nothing is read
-  pub not-read : (words : List ℕ) → (k ≡ 0 → ⊥) → WasRead file (record { number = k; sheet = 1; row = 0 }) words
-  not-read words h = record { refusal = refuse-some-is k (bytesFault (length file)) 1 0 none is h; room = λ z. absurd (h z); stand = λ z. absurd (h z) }
+left-out : (k : ℕ) (result out : List ℕ) → (k ≡ 0 → ⊥) → written k result out ≡ out
+unfolding written
+left-out zero result out h = absurd (h refl)
+left-out (suc k) result out h = refl
 
-  -- no 33: the words fit, and are read
-  pub words-read : (words₀ words : List ℕ) (r : Refusal) → k ≡ 0 → length words₀ ≡ maxWords → length words ≡ length words₀ → Writes none (wordsOf file) words₀ r words → WasRead file r words
-  words-read words₀ words r z long kept w =
-      let most = bytes-good (length file) (sym is ∙ z) in
-      let n = words-long file in
-      let all = writes-room (wordsOf file) words₀ r words w (omega arith) in
-      record {
-        refusal = refuse-none-is k (bytesFault (length file)) 1 0 r none is z (all .0);
-        room = λ y. omega arith;
-        stand = λ y. ap (take (length file / 4)) (all .1) ∙ take-at (wordsOf file) _ (length file / 4) n;
-      }
+module _ (file : List ℕ) (k : ℕ) (is : k ≡ bytesFault (length file)) where
+  -- 33 into lent words: they are as they were
+  pub not-lent : (out out′ : List ℕ) → (k ≡ 0 → ⊥) → out′ ≡ out → Writes (refuse (bytesFault (length file)) 1 0 none) (wordsOf file) out (record { number = k; sheet = 1; row = 0 }) out′
+  not-lent out out′ h o = record { told = then-some-is (record { number = k; sheet = 1; row = 0 }) _ _ (refuse-some-is k (bytesFault (length file)) 1 0 none is h) h; holds = o ∙ sym (left-out k (wordsOf file) out h) }
+
+  -- no 33: the words are written, or refused by 25, as if there were no such number
+  pub words-lent : (out out′ : List ℕ) (r : Refusal) → k ≡ 0 → Writes none (wordsOf file) out r out′ → Writes (refuse (bytesFault (length file)) 1 0 none) (wordsOf file) out r out′
+  words-lent out out′ r z w = subst (λ (v : Refusal). Writes v (wordsOf file) out r out′) (refuse-none-is k (bytesFault (length file)) 1 0 none none is z refl) w
+
+-- lent words that have room for any sheet: the file is refused by 33, or its words stand in them
+pub was-read : (file words₀ words : List ℕ) (r : Refusal) → length words₀ ≡ maxWords → length words ≡ length words₀ → Writes (refuse (bytesFault (length file)) 1 0 none) (wordsOf file) words₀ r words → WasRead file r words
+was-read file words₀ words r long kept w = go (bytesFault (length file)) refl
+  where
+    go : (k : ℕ) → k ≡ bytesFault (length file) → WasRead file r words
+    go zero is =
+        let e = refuse-none (bytesFault (length file)) 1 0 none (sym is) in
+        let most = bytes-good (length file) (sym is) in
+        let n = words-long file in
+        let all = writes-room (wordsOf file) words₀ r words (subst (λ (v : Refusal). Writes v (wordsOf file) words₀ r words) e w) (omega arith) in
+        record {
+          refusal = all .0 ∙ sym e;
+          room = λ y. omega arith;
+          stand = λ y. ap (take (length file / 4)) (all .1) ∙ take-at (wordsOf file) _ (length file / 4) n;
+        }
+    go (suc k) is =
+        let v = refuse-some-is (suc k) (bytesFault (length file)) 1 0 none is (λ z. absurd (omega (arith, z))) in
+        let e = w .told ∙ sym (then-some-is (record { number = suc k; sheet = 1; row = 0 }) _ _ v (λ z. absurd (omega (arith, z)))) in
+        let some : r .number ≡ 0 → ⊥ = λ z. absurd (omega (arith, sym z ∙ ap (λ (x : Refusal). x .number) e)) in
+        record { refusal = e ∙ v; room = λ z. absurd (some z); stand = λ z. absurd (some z) }
 
 -- ---- what is asked of it
 

@@ -8,14 +8,16 @@ ghost use mathlib.Core.Path.{_≡_};
 ghost use lib.ListN.{length};
 ghost use Rattle.tables.specs.Key.{identity};
 ghost use Rattle.sheet.specs.Limits.{maxWords};
+ghost use Rattle.sheet.specs.Refusals.{none, refuse, Writes};
 ghost use Rattle.sheet.specs.Verdict.{verdict};
-ghost use Rattle.files.specs.Bytes.{wordsOf, bytesVerdict};
+ghost use Rattle.files.specs.Bytes.{wordsOf, bytesOf, bytesFault, bytesVerdict};
 ghost use Rattle.question.specs.Asked.{askFault, afterSheet};
 ghost use Rattle.question.specs.Replies.{Shows};
-ghost use Rattle.lookup.specs.Looked.{lookFault};
+ghost use Rattle.lookup.specs.Looked.{lookFault, PlacesIdentity};
 ghost use Rattle.join.specs.Joined.{Joining};
 ghost use Rattle.takeout.specs.Promises.{TakesOut};
-ghost use Rattle.ask.specs.Promises.{AnswersAtOffice, AnswersJointly, WitnessOf};
+ghost use Rattle.joining.specs.JoinedFiles.{JoinsFiles};
+ghost use Rattle.ask.specs.Promises.{AnswersAtOffice, AnswersJointly, WitnessOf, Witnesses};
 ghost use Rattle.claim.specs.Promises.{TellsPath};
 ghost use Rattle.lists.specs.Promises.{ListsPersons, ListsHolders, ListsUnreached, ShowsLeastBoth, ShowsLeastPair, ListsRedundant};
 ghost use Rattle.counter.specs.Filed.{asking, seeking, WasRead, afterFile, InBytes};
@@ -23,10 +25,10 @@ ghost use Rattle.counter.specs.Filed.{asking, seeking, WasRead, afterFil
 // No witness is longer: a person, a deed and a folio, and categories, each with a row of its own.
 const PATH_WORDS: usize = 2 * (sheet::MAX_NODES as usize + 3);
 
-// The words of a file, at the front of words that have room for any sheet; 33 where it is no sheet's file.
-fn read(file: &[u8], words: &mut [u32]) -> Refusal
-    requires { ⌜ length (now words) ≡ maxWords ⌝ }
-    ensures { λ r. ⌜ WasRead (now (file .entry)) r (now (words .exit)) ⌝ }
+// The words of a file's bytes, at the front of the words lent: 33 where it is no sheet's file, 25 where they don't fit.
+#[no_mangle]
+pub extern "C" fn tormukai_words_of_file(file: &[u8], out: &mut [u32]) -> Refusal
+    ensures { λ r. ⌜ Writes (refuse (bytesFault (length (now (file .entry)))) 1 0 none) (wordsOf (now (file .entry))) (now (out .entry)) r (now (out .exit)) ⌝ }
 {
     let k = files::bytes_fault(file.len());
     if k != 0 {
@@ -36,7 +38,15 @@ fn read(file: &[u8], words: &mut [u32]) -> Refusal
             row: 0,
         };
     }
-    files::decode(file, words)
+    files::decode(file, out)
+}
+
+// The same into words that have room for any sheet: refused by 33 alone.
+fn read(file: &[u8], words: &mut [u32]) -> Refusal
+    requires { ⌜ length (now words) ≡ maxWords ⌝ }
+    ensures { λ r. ⌜ WasRead (now (file .entry)) r (now (words .exit)) ⌝ }
+{
+    tormukai_words_of_file(file, words)
 }
 
 // Question 1 of a file's bytes, the answer at an office: 0 Undetermined, 1 Granted, 2 Banned, 3 Both, in `value`.
@@ -148,6 +158,14 @@ pub extern "C" fn tormukai_witness(
     witness_bytes(&words[0..n], q, out)
 }
 
+// The bytes of words, as they stand in a file, at the front of the bytes lent: 25 where they don't fit.
+#[no_mangle]
+pub extern "C" fn tormukai_file_of_words(sheet: &[u32], out: &mut [u8]) -> Refusal
+    ensures { λ r. ⌜ Writes none (bytesOf (now (sheet .entry))) (now (out .entry)) r (now (out .exit)) ⌝ }
+{
+    files::encode(sheet, out)
+}
+
 // The verdict on a file's bytes: 33, then 1 to 17 of its words, or none.
 #[no_mangle]
 pub extern "C" fn tormukai_check_file(file: &[u8]) -> Refusal
@@ -162,6 +180,80 @@ pub extern "C" fn tormukai_check(sheet: &[u32]) -> Refusal
     ensures { λ r. ⌜ r ≡ verdict 1 (now (sheet .entry)) ⌝ }
 {
     verdict::check(sheet)
+}
+
+// Question 1 of words, the answer at an office, in `value`.
+#[no_mangle]
+pub extern "C" fn tormukai_sheet_answer(
+    sheet: &[u32],
+    office: u32,
+    person: u32,
+    deed: u32,
+    folio: u32,
+) -> Answer
+    ensures { λ a. ⌜ AnswersAtOffice (afterSheet (now (sheet .entry))) (now (sheet .entry)) (asking office 0 0 person deed folio) a ⌝ }
+{
+    let q = Question {
+        office: office,
+        rule: 0,
+        kind: 0,
+        person: person,
+        category: 0,
+        deed: deed,
+        other: 0,
+        folio: folio,
+    };
+    ask::answer_at_office(sheet, q)
+}
+
+// Question 2 of words, the joint answer under a rule: the answer in `value`, the deciding office in `count`.
+#[no_mangle]
+pub extern "C" fn tormukai_sheet_joint_answer(
+    sheet: &[u32],
+    rule: u32,
+    person: u32,
+    deed: u32,
+    folio: u32,
+) -> Answer
+    ensures { λ a. ⌜ AnswersJointly (afterSheet (now (sheet .entry))) (now (sheet .entry)) (asking 0 rule 0 person deed folio) a ⌝ }
+{
+    let q = Question {
+        office: 0,
+        rule: rule,
+        kind: 0,
+        person: person,
+        category: 0,
+        deed: deed,
+        other: 0,
+        folio: folio,
+    };
+    ask::joint_answer(sheet, q)
+}
+
+// Question 3 of words, the witness of a grant (kind 0) or a ban (any other), two words a node; how many words in `count`.
+#[no_mangle]
+pub extern "C" fn tormukai_sheet_witness(
+    sheet: &[u32],
+    office: u32,
+    kind: u32,
+    person: u32,
+    deed: u32,
+    folio: u32,
+    out: &mut [u32],
+) -> Answer
+    ensures { λ a. ⌜ Witnesses (now (sheet .entry)) (asking office 0 kind person deed folio) (now (out .entry)) a (now (out .exit)) ⌝ }
+{
+    let q = Question {
+        office: office,
+        rule: 0,
+        kind: kind,
+        person: person,
+        category: 0,
+        deed: deed,
+        other: 0,
+        folio: folio,
+    };
+    ask::witness(sheet, q, out)
 }
 
 // Question 4, whether a list of words is some grant (kind 0) or ban path: 1 yes, 0 no, in `value`.
@@ -327,12 +419,34 @@ pub extern "C" fn tormukai_join(first: &[u32], second: &[u32], out: &mut [u32]) 
     join::join(first, second, out)
 }
 
+// Joins the files of two one-office sheets into the file of their two-office sheet.
+#[no_mangle]
+pub extern "C" fn tormukai_join_files(first: &[u8], second: &[u8], out: &mut [u8]) -> Joined
+    ensures { λ r. ⌜ JoinsFiles (now (first .entry)) (now (second .entry)) (now (out .entry)) r (now (out .exit)) ⌝ }
+{
+    joining::join_files(first, second, out)
+}
+
 // Takes one office's sheet out of a sheet; how many words in `count`.
 #[no_mangle]
 pub extern "C" fn tormukai_take_out(sheet: &[u32], office: u32, out: &mut [u32]) -> Answer
     ensures { λ a. ⌜ TakesOut (now (sheet .entry)) office (now (out .entry)) a (now (out .exit)) ⌝ }
 {
     takeout::take_out(sheet, office, out)
+}
+
+// Which of two sheets has an identity, first before second, in `value`, and at which node row in `count`.
+#[no_mangle]
+pub extern "C" fn tormukai_look_up(
+    first: &[u32],
+    second: &[u32],
+    class: u32,
+    number: u32,
+    variant: u32,
+) -> Answer
+    ensures { λ a. ⌜ PlacesIdentity (now (first .entry)) (now (second .entry)) (identity class number variant) a ⌝ }
+{
+    lookup::look_up_place(first, second, class, number, variant)
 }
 
 // The number and place by which looking an identity up in two sheets is refused; 0 throughout where it is found.

@@ -39,7 +39,7 @@ use Rattle.join.proofs.Refusing.{none-refused, in-none, union-passes}
 use Rattle.takeout.proofs.Back.{first-taken, second-taken}
 use Rattle.joint.proofs.Demand.{no-two-pairs, joins-again, asked-combined}
 use Rattle.demands.specs.Demands.{Demand1, Demand2, Demand3, Sheet, Union, JointSheet, PathOf, OfWords}
-use Rattle.demands.proofs.Keeping.{sheet-says, file-says, joins-keep, files-keep, shows-keep}
+use Rattle.demands.proofs.Keeping.{sheet-says, lookup-says, file-says, joins-keep, files-keep, shows-keep}
 use Rattle.demands.proofs.Least.{none-first, none-least}
 use Rattle.demands.proofs.Answering.{told-is, four, gives-exactly, by-priority, by-order, yes-is, front-is, missing-only}
 
@@ -89,6 +89,7 @@ demand-1 = record {
   counter-2 = λ f q x. file-says f _ _ x;
   counter-3 = λ f q out x. shows-keep _ _ (bytes-one (WitnessOf (wordsOf f) q) (witness-one (seenAt (wordsOf f) (q .office)) (sideOf (q .kind)) (q .person) (q .deed) (q .folio))) out x;
   look-up = look;
+  look-up-place = lookup-says;
 }
 
 pub demand-2 : Demand2

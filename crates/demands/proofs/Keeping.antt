@@ -14,6 +14,8 @@ use Rattle.question.specs.Asked.{plain, afterSheet}
 use Rattle.question.specs.Replies.{Replies, refused, answered, Shows, missing, short, written}
 use Rattle.files.specs.Bytes.{wordsOf, bytesOf, bytesVerdict}
 use Rattle.counter.specs.Filed.{afterFile}
+use Rattle.tables.specs.Key.{Key}
+use Rattle.lookup.specs.Looked.{neither, lookFault, StandsIn, PlacesIdentity}
 use Rattle.join.specs.declared.Joined.{Joined}
 use Rattle.join.specs.Joined.{tooMuch, unionNodes, unionEdges, sheetsFault, unionFault, joinFault, JoinsAs, Joining, joined, refused as not-joined}
 use Rattle.joining.specs.JoinedFiles.{filesFault, JoinsFiles}
@@ -52,6 +54,13 @@ sheet-says s k P = replies-say (afterSheet s k) P (after-by-0 s k)
 
 pub file-says : (f : List ℕ) (k : ℕ) (P : ℕ → ℕ → Type 0) {a : Answer} → Replies (afterFile f k) P a → saidIn a ≡ afterFile f k
 file-says f k P = replies-say (afterFile f k) P (file-by-0 f k)
+
+look-by-0 : (a b : List ℕ) (k : Key) → lookFault a b k .number ≡ 0 → lookFault a b k ≡ none
+unfolding lookFault
+look-by-0 a b k z = then-by-0 (verdict 1 a) _ (then-by-0 (verdict 2 b) _ (none-by-0 (neither a b k) 0 0)) z
+
+pub lookup-says : (a b : List ℕ) (k : Key) {x : Answer} → PlacesIdentity a b k x → saidIn x ≡ lookFault a b k
+lookup-says a b k = replies-say (lookFault a b k) (StandsIn a b k) (look-by-0 a b k)
 
 files-by-0 : (f g : List ℕ) (room : ℕ) → filesFault f g room .number ≡ 0 → filesFault f g room ≡ none
 unfolding filesFault

@@ -34,7 +34,7 @@ use Rattle.opened.specs.declared.Which.the-variants.{AtOffice, Joint, Witness, 
 use Rattle.opened.specs.Asking.{questionOf, Answers}
 use Rattle.files.specs.Bytes.{wordsOf}
 use Rattle.counter.specs.Filed.{afterFile, InBytes}
-use Rattle.lookup.specs.Looked.{lookFault, LooksUp}
+use Rattle.lookup.specs.Looked.{lookFault, LooksUp, PlacesIdentity}
 use Rattle.join.specs.declared.Joined.{Joined}
 use Rattle.join.specs.Joined.{sharedNodes, sharedEdges, unionNodes, unionEdges, joinFault, Joining}
 use Rattle.joining.specs.JoinedFiles.{filesFault, JoinsFiles}
@@ -112,6 +112,7 @@ pub record Demand1 : Type 0 where
       → KeepsTable (afterFile f) (askFault (wordsOf f) q) (InBytes (WitnessOf (wordsOf f) q)) out a out′
   -- a refused lookup gives the empty part, and no other does
   pub look-up : (a b : List ℕ) (k : Key) {ws : List ℕ} → LooksUp a b k ws → (ws ≡ []) ↔ (lookFault a b k .number ≡ 0 → ⊥)
+  pub look-up-place : (a b : List ℕ) (k : Key) {x : Answer} → PlacesIdentity a b k x → saidIn x ≡ lookFault a b k
 
 -- ==== Demand 2: the answers are those of category-based access control, exactly as its paths exist in the office asked, with the shortest path shown; a path is refused only where there is none
 

@@ -1,6 +1,6 @@
 -- What a search for an identity tells of a sheet: that it has the identity, where its row stands, and what a lookup gives.
 -- Assumes nothing.
-use Prim.Native.Nat.{ℕ, _+_, _<_, _≤_}
+use Prim.Native.Nat.{ℕ, _+_, _-_, _/_, _<_, _≤_}
 use native.Mathlib.Omega.{arith}
 use native.Mathlib.Decide.{decLt}
 use mathlib.Core.Path.{_≡_, refl, sym, ap, subst, _∙_}
@@ -21,7 +21,10 @@ use Rattle.sheet.specs.Accepted.{Accepted}
 use Rattle.sheet.specs.Found.{FoundIs, stands, missing}
 use Rattle.sheet.proofs.Refusing.{refuse-plain, then-some-is, then-none-is, then-good}
 use Rattle.sheet.proofs.Accepting.{accepted}
-use Rattle.lookup.specs.Looked.{hasIdentity, neither, lookFault, LooksUp, refused, in-first, in-second, StandsAt, at-row, nowhere}
+use Rattle.question.specs.declared.Answer.{Answer}
+use Rattle.question.specs.Replies.{refusedBy, tells, Replies}
+use Rattle.question.proofs.Telling.{refuses}
+use Rattle.lookup.specs.Looked.{hasIdentity, neither, lookFault, LooksUp, refused, in-first, in-second, StandsIn, of-first, of-second, PlacesIdentity, StandsAt, at-row, nowhere}
 
 -- ---- where a row stands
 
@@ -52,6 +55,10 @@ pub stands-row : (s : List ℕ) (k : Key) (r : ℕ) → Accepted s → StandsAt 
 stands-row s k r acc (at-row i l e) h = record { row = i; inside = l; names = e; place = refl; room = omega (arith, l, acc .nodes .header .whole); low = omega (arith, l, acc .nodes .header .nodes) }
 stands-row s k r acc (nowhere n) h = absurd (omega arith)
 
+-- the row whose words start there
+row-counted : (s : List ℕ) (k : Key) (r : ℕ) (x : Row s k r) → (r - 6) / 4 ≡ x .row
+row-counted s k r x = omega (arith, x .place)
+
 pub identity-in : (s : List ℕ) (k : Key) (i : ℕ) → i < headerOf s .nodes → nodeKeyAt s i ≡ k → hasIdentity s k ≡ true
 unfolding hasIdentity
 identity-in s k i l e = has-row (headerOf s .nodes) (nodeKeyAt s) k i l e
@@ -60,6 +67,14 @@ pub has-none : (s : List ℕ) (k : Key) (r : ℕ) → Accepted s → StandsAt s 
 unfolding hasIdentity
 has-none s k r acc (at-row i l e) h = absurd (omega (arith, l, h, acc .nodes .header .whole))
 has-none s k r acc (nowhere n) h = has-not (headerOf s .nodes) (nodeKeyAt s) k n
+
+-- the place of one that the sheet has
+has-place : (s : List ℕ) (k : Key) (r : ℕ) → Accepted s → StandsAt s k r → hasIdentity s k ≡ true → r < length s
+has-place s k r acc st h = go (decLt r (length s))
+  where
+    go : Dec (r < length s) → r < length s
+    go (yes l) = l
+    go (no l) = absurd (true≢false (sym h ∙ has-none s k r acc st (omega arith)))
 
 -- ---- 32
 
@@ -126,15 +141,34 @@ module _ (a b : List ℕ) (k : Key) where
         go true e = refl
         go false e = absurd (omega (arith, e))
 
--- the place of one that the sheet has
-pub has-place : (s : List ℕ) (k : Key) (r : ℕ) → Accepted s → StandsAt s k r → hasIdentity s k ≡ true → r < length s
-has-place s k r acc st h = go (decLt r (length s))
-  where
-    go : Dec (r < length s) → r < length s
-    go (yes l) = l
-    go (no l) = absurd (true≢false (sym h ∙ has-none s k r acc st (omega arith)))
+    -- the row that a search found in the first sheet
+    pub first-row : (i : ℕ) → r .number ≡ 0 → StandsAt a k i → i < length a → Row a k i
+    first-row i z st l = stands-row a k i (both-accepted z .0) st l
+
+    -- the second sheet has what the first has not, so its row stands there
+    pub second-row : (i j : ℕ) → r .number ≡ 0 → StandsAt a k i → length a ≤ i → StandsAt b k j → Row b k j
+    second-row i j z st l su =
+        let A = both-accepted z in
+        stands-row b k j (A .1) su (has-place b k j (A .1) su (in-other z (has-none a k i (A .0) st l)))
+
+    -- ---- where it stands
+
+    pub places-none : (x : Answer) → (r .number ≡ 0 → ⊥) → x ≡ refusedBy r → PlacesIdentity a b k x
+    places-none x z e = refuses (StandsIn a b k) (lookFault a b k) r x f z e
+
+    answers : (x : Answer) (sheet row : ℕ) → r .number ≡ 0 → StandsIn a b k sheet row → x ≡ tells sheet row → PlacesIdentity a b k x
+    answers x sheet row z st e = subst (λ (y : Answer). PlacesIdentity a b k y) (sym e) (Replies.answered sheet row (fault ∙ z) st)
+
+    pub places-first : (x : Answer) (at row : ℕ) → r .number ≡ 0 → Row a k at → row ≡ (at - 6) / 4 → x ≡ tells 1 row → PlacesIdentity a b k x
+    places-first x at row z w q e = answers x 1 row z (subst (StandsIn a b k 1) (sym (q ∙ row-counted a k at w)) (of-first (w .row) (w .inside) (w .names))) e
+
+    pub places-second : (x : Answer) (at row : ℕ) → r .number ≡ 0 → hasIdentity a k ≡ false → Row b k at → row ≡ (at - 6) / 4 → x ≡ tells 2 row → PlacesIdentity a b k x
+    places-second x at row z h w q e = answers x 2 row z (subst (StandsIn a b k 2) (sym (q ∙ row-counted b k at w)) (of-second (w .row) h (w .inside) (w .names))) e
 
 -- by the key that was asked for
+pub place-part : (a b : List ℕ) (k k′ : Key) (x : Answer) → k ≡ k′ → PlacesIdentity a b k x → PlacesIdentity a b k′ x
+place-part a b k k′ x e y = subst (λ (j : Key). PlacesIdentity a b j x) e y
+
 pub four-part : (a b : List ℕ) (k k′ : Key) (ws ws′ : List ℕ) → k ≡ k′ → ws ≡ ws′ → LooksUp a b k ws → LooksUp a b k′ ws′
 four-part a b k k′ ws ws′ e f x = subst (λ (y : List ℕ). LooksUp a b k′ y) f (subst (λ (y : Key). LooksUp a b y ws) e x)
 

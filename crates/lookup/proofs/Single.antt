@@ -1,4 +1,4 @@
--- Any two parts that the statement of a lookup allows are equal; the other entry's statement is an equation.
+-- Any two parts that the statement of a lookup allows are equal, and so are any two places; the third entry's statement is an equation.
 -- Assumes nothing.
 use mathlib.Core.Path.{_≡_, refl, sym, ap, _∙_}
 use mathlib.Core.Bool.{true≢false}
@@ -8,7 +8,9 @@ use Rattle.tables.specs.Key.{Key}
 use Rattle.tables.proofs.Keys.{one-row}
 use Rattle.sheet.specs.Rows.{headerOf, nodeKeyAt}
 use Rattle.sheet.specs.Accepted.{Accepted}
-use Rattle.lookup.specs.Looked.{rowWords, lookFault, LooksUp, refused, in-first, in-second}
+use Rattle.question.specs.declared.Answer.{Answer}
+use Rattle.question.specs.Replies.{tells, Replies}
+use Rattle.lookup.specs.Looked.{rowWords, lookFault, LooksUp, refused, in-first, in-second, StandsIn, of-first, of-second, PlacesIdentity}
 use Rattle.lookup.proofs.Looking.{identity-in, both-accepted}
 
 -- one row has an identity
@@ -25,3 +27,16 @@ looked-single a b k (in-first i e l n) (in-second j e′ h l′ n′) = absurd (
 looked-single a b k (in-second i e h l n) (refused z) = absurd (z e)
 looked-single a b k (in-second i e h l n) (in-first j e′ l′ n′) = absurd (true≢false (sym (identity-in a k j l′ n′) ∙ h))
 looked-single a b k (in-second i e h l n) (in-second j e′ h′ l′ n′) = ap (rowWords b) (one-place b (both-accepted a b k (lookFault a b k) refl e .1) k i j l l′ n n′)
+
+-- one row of one sheet has the identity that is looked up
+stands-one : (a b : List ℕ) (k : Key) → Accepted a × Accepted b → (v c v′ c′ : ℕ) → StandsIn a b k v c → StandsIn a b k v′ c′ → tells v c ≡ tells v′ c′
+stands-one a b k acc v c v′ c′ (of-first i l n) (of-first j l′ n′) = ap (tells 1) (one-place a (acc .0) k i j l l′ n n′)
+stands-one a b k acc v c v′ c′ (of-first i l n) (of-second j h l′ n′) = absurd (true≢false (sym (identity-in a k i l n) ∙ h))
+stands-one a b k acc v c v′ c′ (of-second i h l n) (of-first j l′ n′) = absurd (true≢false (sym (identity-in a k j l′ n′) ∙ h))
+stands-one a b k acc v c v′ c′ (of-second i h l n) (of-second j h′ l′ n′) = ap (tells 2) (one-place b (acc .1) k i j l l′ n n′)
+
+pub place-single : (a b : List ℕ) (k : Key) {x y : Answer} → PlacesIdentity a b k x → PlacesIdentity a b k y → x ≡ y
+place-single a b k (Replies.refused h) (Replies.refused h′) = refl
+place-single a b k (Replies.refused h) (Replies.answered v c z p) = absurd (h z)
+place-single a b k (Replies.answered v c z p) (Replies.refused h) = absurd (h z)
+place-single a b k (Replies.answered v c z p) (Replies.answered v′ c′ z′ p′) = stands-one a b k (both-accepted a b k (lookFault a b k) refl z) v c v′ c′ p p′

@@ -12,6 +12,8 @@ use Rattle.sheet.specs.Limits.{nodeWords, edgesFrom}
 use Rattle.sheet.specs.Refusals.{_when_otherwise_, none, refuse, _then_}
 use Rattle.sheet.specs.Rows.{headerOf, nodeKeyAt}
 use Rattle.sheet.specs.Verdict.{verdict}
+use Rattle.question.specs.declared.Answer.{Answer}
+use Rattle.question.specs.Replies.{Replies}
 
 -- a sheet has the identity
 unfoldable pub hasIdentity : List ℕ → Key → Bool
@@ -34,6 +36,15 @@ pub data LooksUp (a b : List ℕ) (k : Key) : List ℕ → Type 0 where
   refused : (lookFault a b k .number ≡ 0 → ⊥) → LooksUp a b k []
   in-first : (i : ℕ) → lookFault a b k .number ≡ 0 → i < headerOf a .nodes → nodeKeyAt a i ≡ k → LooksUp a b k (rowWords a i)
   in-second : (i : ℕ) → lookFault a b k .number ≡ 0 → hasIdentity a k ≡ false → i < headerOf b .nodes → nodeKeyAt b i ≡ k → LooksUp a b k (rowWords b i)
+
+-- where the row stands that a lookup gives: in the first sheet or the second, and at which node row; first before second
+pub data StandsIn (a b : List ℕ) (k : Key) : ℕ → ℕ → Type 0 where
+  of-first : (i : ℕ) → i < headerOf a .nodes → nodeKeyAt a i ≡ k → StandsIn a b k 1 i
+  of-second : (i : ℕ) → hasIdentity a k ≡ false → i < headerOf b .nodes → nodeKeyAt b i ≡ k → StandsIn a b k 2 i
+
+-- the place of the row that a lookup gives, or what the lookup is refused by
+abbrev pub PlacesIdentity : List ℕ → List ℕ → Key → Answer → Type 0
+PlacesIdentity a b k = Replies (lookFault a b k) (StandsIn a b k)
 
 -- where the words of an identity's row start; the length where no row has it
 pub data StandsAt (s : List ℕ) (k : Key) : ℕ → Type 0 where

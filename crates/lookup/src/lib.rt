@@ -1,12 +1,14 @@
 // Looking an identity up in two sheets at once: its row as it stands in the first that has it, and why there is none.
+use question::Answer;
 use sheet::Found;
 use sheet::Node;
 use sheet::Refusal;
 ghost use mathlib.Core.Path.{_≡_};
+ghost use Prim.Native.Nat.{_-_, _/_, _≤_};
 ghost use Rattle.tables.specs.Key.{identity};
 ghost use Rattle.sheet.specs.Rows.{nodeKey};
 ghost use Rattle.sheet.specs.Accepted.{Accepted};
-ghost use Rattle.lookup.specs.Looked.{neither, lookFault, LooksUp, StandsAt};
+ghost use Rattle.lookup.specs.Looked.{neither, lookFault, LooksUp, PlacesIdentity, StandsAt};
 
 // Where the words of an identity's row start; the length where no row has it.
 fn place_in(sheet: &[u32], wanted: Node) -> usize
@@ -78,6 +80,31 @@ pub fn look_up<'a>(
     let j = place_in(second, wanted);
     let f = j + 4;
     &second[j..f]
+}
+
+// The node row whose words start at a place.
+fn row_from(place: usize) -> u32
+    requires { ⌜ (6 ≤ place) × (place ≤ 20000) ⌝ }
+    ensures { λ r. ⌜ r ≡ (place - 6) / 4 ⌝ }
+{
+    ((place - sheet::HEADER_WORDS) / sheet::NODE_WORDS) as u32
+}
+
+// Where the row stands that a lookup gives: the sheet, 1 or 2, in `value`, and its node row in `count`.
+pub fn look_up_place(first: &[u32], second: &[u32], class: u32, number: u32, variant: u32) -> Answer
+    ensures { λ a. ⌜ PlacesIdentity (now (first .entry)) (now (second .entry)) (identity class number variant) a ⌝ }
+{
+    let wanted = sheet::named(class, number, variant);
+    let r = refusal_of(first, second, wanted);
+    if r.number != 0 {
+        return question::refused(r);
+    }
+    let near = place_in(first, wanted);
+    if near < first.len() {
+        return question::told(1, row_from(near));
+    }
+    let far = place_in(second, wanted);
+    question::told(2, row_from(far))
 }
 
 // The number and place of what a lookup with the same arguments is refused by; 0 throughout where the identity is found.

@@ -1,26 +1,21 @@
--- `counter::read` meets its contract: past 33 the file's words fit.
+-- `counter::read` meets its contract: where there is room for any sheet, 33 alone refuses.
 -- Assumes nothing.
 use borrow.Author.Needs.{needs}
-use Rattle.counter.proofs.Reading.{not-read, words-read}
+use Rattle.counter.proofs.Reading.{was-read}
 use Rattle.counter.proofs.read.Statement.{statement}
 use Rattle.counter.proofs.read.Tie as tie
 
-bytes-fault-requires : tie.Need-bytes-fault-requires
-bytes-fault-requires c κs = search needs
-
-returns : tie.Need-returns
-returns c = not-read _ _ (c .before .bytes-fault .ensures) _ (c .if1 .taken)
-
-decode-requires : tie.Need-decode-requires
-decode-requires c κs = search needs
+tormukai-words-of-file-requires : tie.Need-tormukai-words-of-file-requires
+tormukai-words-of-file-requires c κs = search needs
 
 same-length : tie.Need-same-length
 same-length c = search needs
 
-returns-2 : tie.Need-returns-2
-returns-2 c = let S = c .before .before .before .before .before .before .before .before in
-    let D = c .before .before .decode in
-    words-read _ _ (c .before .before .before .before .before .bytes-fault .ensures) _ _ _ (c .before .before .before .before .if1 .left) (S .pre) (D .kept .1 .0) (D .ensures)
+returns : tie.Need-returns
+returns c =
+    let S = c .before .before .before .before .before .before in
+    let W = c .before .before .tormukai-words-of-file in
+    was-read _ _ _ _ (S .pre) (W .kept .1 .0) (W .ensures)
 
 pub read-spec : {M : Type 1} → statement M
-read-spec = tie.close (tie.spec bytes-fault-requires returns decode-requires same-length returns-2)
+read-spec = tie.close (tie.spec tormukai-words-of-file-requires same-length returns)

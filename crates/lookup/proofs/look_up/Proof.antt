@@ -1,6 +1,6 @@
 -- `lookup::look_up` meets its contract: each part is the empty one, or the four words of a row that has the identity.
 -- Assumes nothing.
-use Rattle.lookup.proofs.Looking.{Row, stands-row, has-none, has-place, gives-none, gives-first, gives-second, both-accepted, in-other, four-part}
+use Rattle.lookup.proofs.Looking.{Row, has-none, gives-none, gives-first, gives-second, both-accepted, first-row, second-row, four-part}
 use Rattle.sheet.specs.Rows.{nodeKey}
 use mathlib.Core.Path.{_≡_, refl}
 use native.Mathlib.Omega.{arith}
@@ -33,10 +33,7 @@ place-in-requires : tie.Need-place-in-requires
 place-in-requires c κs = both-accepted _ _ _ _ (c .before .before .refusal-of .ensures) (c .if1 .left) .0
 
 add-e : tie.Need-add-e
-add-e c =
-    let A = both-accepted _ _ _ _ (c .before .before .before .before .refusal-of .ensures) (c .before .before .if1 .left) .0 in
-    let r = stands-row _ _ _ A (c .before .place-in .ensures) (c .if2 .taken) in
-    omega (arith, r .room)
+add-e c = omega (arith, first-row _ _ _ _ (c .before .before .before .before .refusal-of .ensures) _ (c .before .before .if1 .left) (c .before .place-in .ensures) (c .if2 .taken) .room)
 
 mul-result : tie.Need-mul-result
 mul-result c = search needs
@@ -48,9 +45,7 @@ part-result-start-2 : tie.Need-part-result-start-2
 part-result-start-2 c = search needs
 
 part-result-end-2 : tie.Need-part-result-end-2
-part-result-end-2 c =
-    let A = both-accepted _ _ _ _ (c .before .before .before .before .refusal-of .ensures) (c .before .before .if1 .left) .0 in
-    stands-row _ _ _ A (c .before .place-in .ensures) (c .if2 .taken) .room
+part-result-end-2 c = first-row _ _ _ _ (c .before .before .before .before .refusal-of .ensures) _ (c .before .before .if1 .left) (c .before .place-in .ensures) (c .if2 .taken) .room
 
 returns-2 : tie.Need-returns-2
 returns-2 c =
@@ -58,19 +53,14 @@ returns-2 c =
     let R = c .before .before .before .before .before .refusal-of .ensures in
     let Z = c .before .before .before .if1 .left in
     let e : c .before .before .place-in .result + 4 - c .before .before .place-in .result ≡ 4 = omega arith in
-    rw e (four-part _ _ _ _ _ _ N refl (gives-first _ _ _ _ R _ Z (stands-row _ _ _ (both-accepted _ _ _ _ R Z .0) (c .before .before .place-in .ensures) (c .before .if2 .taken))))
+    rw e (four-part _ _ _ _ _ _ N refl (gives-first _ _ _ _ R _ Z (first-row _ _ _ _ R _ Z (c .before .before .place-in .ensures) (c .before .if2 .taken))))
 
 place-in-requires-2 : tie.Need-place-in-requires-2
 place-in-requires-2 c κs = both-accepted _ _ _ _ (c .before .before .before .before .refusal-of .ensures) (c .before .before .if1 .left) .1
 
--- the second sheet has what the first has not, so its row stands there
+-- the row in the second sheet
 found : (k : tie.After-place-in2) → Row (k .before .before .before .before .before .before .before .before .before .args .second .now) (nodeKey (k .before .before .before .before .before .before .named .result)) (k .place-in2 .result)
-found k =
-    let R = k .before .before .before .before .before .refusal-of .ensures in
-    let Z = k .before .before .before .if1 .left in
-    let A = both-accepted _ _ _ _ R Z in
-    let h = has-none _ _ _ (A .0) (k .before .before .place-in .ensures) (k .before .if2 .left) in
-    stands-row _ _ _ (A .1) (k .place-in2 .ensures) (has-place _ _ _ (A .1) (k .place-in2 .ensures) (in-other _ _ _ _ R Z h))
+found k = second-row _ _ _ _ (k .before .before .before .before .before .refusal-of .ensures) _ _ (k .before .before .before .if1 .left) (k .before .before .place-in .ensures) (k .before .if2 .left) (k .place-in2 .ensures)
 
 add-f : tie.Need-add-f
 add-f c = omega (arith, found c .low)

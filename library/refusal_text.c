@@ -1,8 +1,6 @@
-/* Refusals in the words of the table of refusals. */
-#include "desk.h"
-
-#include <inttypes.h>
-#include <stdio.h>
+/* The sentences of the table of refusals (docs/RULES.md). They stand here and nowhere else: tools/join reads them from the
+ * lines below, so each keeps to one line. */
+#include "tormukai.h"
 
 static const char *const sentences[] = {
     [1] = "under 6 words",
@@ -38,25 +36,9 @@ static const char *const sentences[] = {
     [33] = "bytes: length not a multiple of 4, or above 40,984",
 };
 
-const char *refusal_sentence(uint32_t number)
+const char *tormukai_refusal_text(uint32_t number)
 {
     if (number < sizeof sentences / sizeof *sentences && sentences[number] != NULL)
         return sentences[number];
     return "not in the table of refusals";
-}
-
-/* Row 0 is a row for these numbers alone; for the others a row of 0 is no place. */
-static bool has_row(uint32_t number)
-{
-    return 6 <= number && number <= 17;
-}
-
-void tell_refusal(uint32_t number, uint32_t sheet, uint32_t row)
-{
-    printf("refused %" PRIu32, number);
-    if (sheet != 0)
-        printf(" at sheet %" PRIu32, sheet);
-    if (has_row(number))
-        printf(" row %" PRIu32, row);
-    printf(": %s\n", refusal_sentence(number));
 }

@@ -1,0 +1,140 @@
+"""What the command prints: the sentences of the table of refusals, and the text that says the same as a JSON object."""
+
+TYPES = {1: 'person', 2: 'category', 3: 'deed', 4: 'folio'}
+KINDS = {1: 'in', 2: 'within', 3: 'grants', 4: 'bans', 5: 'applies'}
+ANSWERS = ['undetermined', 'granted', 'banned', 'both']
+
+# Document 01's table, in its order.
+SENTENCES = {
+    33: 'bytes: length not a multiple of 4, or above 40,984',
+    1: 'under 6 words',
+    2: 'form not 1',
+    3: 'office count not 1 or 2',
+    4: 'n above 512 or e above 2,048',
+    5: 'an offset or the length is wrong',
+    6: 'node type',
+    7: 'number 0, or variant on a non-deed',
+    8: 'node offices',
+    9: 'node identity equal to the row before',
+    10: 'node identity lower than the row before',
+    11: 'edge kind',
+    12: 'an end not below n',
+    13: "end types don't fit the kind",
+    14: 'containment in itself',
+    15: 'edge offices',
+    16: 'edge equal to the row before',
+    17: 'edge lower than the row before',
+    20: 'office number not 1 to the count',
+    27: 'rule number',
+    21: 'unknown person',
+    22: 'unknown deed',
+    24: 'unknown category',
+    23: 'unknown folio',
+    31: 'question 9 with equal deeds',
+    32: 'identity in neither sheet',
+    28: "joining a sheet whose office count isn't 1",
+    29: 'union above 512 nodes',
+    30: 'union above 2,048 edges',
+    26: 'no such path, triple or pair',
+    25: 'output shorter than the result',
+}
+
+
+class Refused(Exception):
+    """A refusal: its number, its sheet and its row, 0 where the table names none."""
+
+    def __init__(self, number, sheet=0, row=0):
+        super().__init__(number, sheet, row)
+        self.number, self.sheet, self.row = number, sheet, row
+
+    def fields(self):
+        return {'number': self.number, 'sheet': self.sheet, 'row': self.row, 'text': SENTENCES[self.number]}
+
+
+def answered(value):
+    return ANSWERS[value]
+
+
+def reply(verb, outcome):
+    """The object that `--json` prints: of a refusal, or of a verb's own fields."""
+    if isinstance(outcome, Refused):
+        return {'verb': verb, 'refusal': outcome.fields()}
+    return {'verb': verb, 'refusal': None, **outcome}
+
+
+# ---- The same as text
+
+def counted(count, noun):
+    return f'{count} {noun}' if count == 1 else f'{count} {noun}s'
+
+
+def identity(of):
+    """A node by itself: a deed always has its variant."""
+    return f"{of['type']} {of['number']}" + (f"/{of['variant']}" if of['type'] == 'deed' else '')
+
+
+def offices(of):
+    listed = [str(office) for office in of['offices']]
+    if len(listed) == 1:
+        return f'office {listed[0]}'
+    return f"offices {', '.join(listed[:-1])} and {listed[-1]}"
+
+
+def node(of):
+    return f"node {of['row']}: {identity(of)}, {offices(of)}"
+
+
+def edge(of):
+    verb = 'applies to' if of['kind'] == 'applies' else of['kind']
+    return f"edge {of['row']}: {identity(of['from'])} {verb} {identity(of['to'])}, {offices(of)}"
+
+
+def listed(lines):
+    return list(lines) or ['none']
+
+
+def refusal(of):
+    place = f" at sheet {of['sheet']}" if of['sheet'] else ''
+    row = f" row {of['row']}" if 6 <= of['number'] <= 17 else ''
+    return f"refused {of['number']}{place}{row}: {of['text']}"
+
+
+def counts(of):
+    return f"{counted(of['offices'], 'office')}, {counted(of['nodes'], 'node')}, {counted(of['edges'], 'edge')}"
+
+
+def shown(of):
+    sizes = {**of, 'nodes': len(of['nodes']), 'edges': len(of['edges'])}
+    return [f"form {of['form']}, {counts(sizes)}"] + [node(row) for row in of['nodes']] + [edge(row) for row in of['edges']]
+
+
+def decided(of):
+    by = f"office {of['office']}" if of['office'] else 'no office'
+    return f"{of['answer']} ({of['value']}), decided by {by}"
+
+
+TEXT = {
+    'check': lambda of: ['accepted: ' + counts(of)],
+    'answer': lambda of: [f"{of['answer']} ({of['value']})"],
+    'joint': lambda of: [decided(of)],
+    'witness': lambda of: [' > '.join(identity(each) for each in of['path'])],
+    'path': lambda of: ['yes' if of['path'] else 'no'],
+    'persons': lambda of: listed(f'person {each}' for each in of['persons']),
+    'holders': lambda of: listed(f'person {each}' for each in of['persons']),
+    'unreached': lambda of: listed(f'folio {each}' for each in of['folios']),
+    'conflict': lambda of: [f"person {of['person']}, deed {of['deed']}, folio {of['folio']}"],
+    'duties': lambda of: [f"person {of['person']}, folio {of['folio']}"],
+    'redundant': lambda of: listed(edge(each) for each in of['edges']),
+    'find': lambda of: [f"{('first', 'second')[of['sheet'] - 1]} sheet, {node(of['node'])}"],
+    'join': lambda of: [f"nodes {of['nodes']} shared {of['shared_nodes']}", f"edges {of['edges']} shared {of['shared_edges']}"],
+    'take': lambda of: [f"nodes {of['nodes']}", f"edges {of['edges']}"],
+    'show': shown,
+}
+
+
+def text(of, out=None):
+    """The lines that say what the object says; OUT is named where a verb writes one."""
+    if of['refusal']:
+        return refusal(of['refusal']) + '\n'
+    lines = TEXT[of['verb']](of) + ([f'written: {out}'] if of['verb'] in ('join', 'take') else [])
+    return ''.join(line + '\n' for line in lines)

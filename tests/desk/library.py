@@ -1,0 +1,143 @@
+"""Every function of the library called from C, by tests/library.c; and linked as docs/COUNTER.md says, on x86-64."""
+import platform
+import re
+from functools import partial
+
+from .drive import START, TOP, Finding, differs, held, run
+from .expect import SENTENCES
+from .sheets import A, B, JOINT
+
+ROOM = '4294967295'  # the word that stands where nothing was written
+
+
+def words(of):
+    return ' '.join(map(str, of.words()))
+
+
+
+def lines():
+    """What tests/library.c prints. Of a result: number, sheet, row, value, count; what was written; the word after it.
+    Where out is lent as bytes, it is shown as words: the machine is x86-64."""
+    yield 'version: 0.2.0'
+    yield 'answer: 0 0 0 2 0; 4294967295'
+    yield 'joint_answer: 0 0 0 2 1; 4294967295'
+    yield 'witness: 0 0 0 0 40; 11 0 21 0 22 0 31 1 41 0 4294967295'
+    yield 'witness of a ban: 0 0 0 0 40; 12 0 22 0 21 0 31 2 42 0 4294967295'
+    yield 'witness, a byte short: 25 0 0 0 0; 4294967295'
+    yield 'check_file: 0 0 0'
+    yield 'check_file, cut: 33 1 0'
+    yield f'words_of_file: 0 0 0; {words(A)} {ROOM}'
+    yield 'words_of_file, no bytes: 0 0 0; 4294967295'
+    yield f'words_of_file, no sheet: 0 0 0; 67305985 {ROOM}'
+    yield 'words_of_file, a byte cut off: 33 1 0; 4294967295'
+    yield 'words_of_file, too long: 33 1 0; 4294967295'
+    yield 'words_of_file, too long before too short: 33 1 0; 4294967295'
+    yield 'words_of_file, a word short: 25 0 0; 4294967295'
+    yield f'file_of_words: 0 0 0; {words(A)} {ROOM}'
+    yield 'file_of_words, no words: 0 0 0; 4294967295'
+    yield f'file_of_words, no sheet: 0 0 0; 67305985 {ROOM}'
+    yield 'file_of_words, a byte short: 25 0 0; 4294967295'
+    yield f'join_files: 0 0 0 70 8 8 4 2; {words(JOINT)} {ROOM}'
+    yield 'join_files, the first cut: 33 1 0 0 0 0 0 0; 4294967295'
+    yield 'join_files, the second cut: 33 2 0 0 0 0 0 0; 4294967295'
+    yield 'join_files, the second damaged: 6 2 3 0 0 0 0 0; 4294967295'
+    yield 'join_files, two offices: 28 2 0 0 0 0 0 0; 4294967295'
+    yield 'join_files, a byte short: 25 0 0 0 0 0 0 0; 4294967295'
+    yield 'sheet_answer: 0 0 0 2 0; 4294967295'
+    yield 'sheet_answer, office 2: 20 0 0 0 0; 4294967295'
+    yield 'sheet_joint_answer: 0 0 0 2 1; 4294967295'
+    yield 'sheet_joint_answer, rule 4: 27 0 0 0 0; 4294967295'
+    yield 'sheet_witness: 0 0 0 0 10; 11 0 21 0 22 0 31 1 41 0 4294967295'
+    yield 'sheet_witness of a ban: 0 0 0 0 10; 12 0 22 0 21 0 31 2 42 0 4294967295'
+    yield 'sheet_witness, none: 26 0 0 0 0; 4294967295'
+    yield 'sheet_witness, a word short: 25 0 0 0 0; 4294967295'
+    yield 'is_path: 0 0 0 1 0;'
+    yield 'is_path, a ban: 0 0 0 0 0;'
+    yield 'persons_in_category: 0 0 0 0 2; 11 12 4294967295'
+    yield 'persons_in_category, a word short: 25 0 0 0 0; 4294967295'
+    yield 'persons_with_grant: 0 0 0 0 2; 11 12 4294967295'
+    yield 'persons_with_grant, a word short: 25 0 0 0 0; 4294967295'
+    yield 'folios_out_of_reach: 0 0 0 0 1; 42 4294967295'
+    yield 'folios_out_of_reach, no room: 25 0 0 0 0; 4294967295'
+    yield 'least_triple: 0 0 0 0 3; 1 5 6 4294967295'
+    yield 'least_triple, a word short: 25 0 0 0 0; 4294967295'
+    yield 'least_holder: 0 0 0 0 2; 1 6 4294967295'
+    yield 'least_holder, a word short: 25 0 0 0 0; 4294967295'
+    yield 'redundant_edges: 0 0 0 0 1; 1 4294967295'
+    yield 'redundant_edges, no room: 25 0 0 0 0; 4294967295'
+    yield f'join: 0 0 0 70 8 8 4 2; {words(JOINT)} {ROOM}'
+    yield 'join, a word short: 25 0 0 0 0 0 0 0; 4294967295'
+    yield f'take_out: 0 0 0 0 34; {words(B)} {ROOM}'
+    yield 'take_out, a word short: 25 0 0 0 0; 4294967295'
+    yield 'look_up: 0 0 0 2 6; 4294967295'
+    yield 'look_up, in both: 0 0 0 1 2; 4294967295'
+    yield 'look_up, a person: 32 0 0 0 0; 4294967295'
+    yield 'look_up, the second damaged: 6 2 3 0 0; 4294967295'
+    yield 'look_up_refusal: 0 0 0'
+    yield 'look_up_refusal, a person: 32 0 0'
+    yield 'check: 0 0 0'
+    yield 'check, damaged: 6 1 3'
+    for name in ('sheet_answer', 'sheet_joint_answer', 'sheet_witness', 'is_path', 'persons_in_category', 'persons_with_grant',
+                 'folios_out_of_reach', 'least_triple', 'least_holder', 'redundant_edges', 'take_out', 'look_up'):
+        yield f'{name}, damaged: 6 1 3 0 0; 4294967295'
+    yield 'join, damaged: 6 2 3 0 0 0 0 0; 4294967295'
+    yield 'look_up_refusal, damaged: 6 2 3'
+    for number in [*range(36), 4294967295]:
+        yield f"{number} {SENTENCES.get(number, 'not in the table of refusals')}"
+    for name, number in CONSTANTS:
+        yield f'{name} {number}'
+
+
+# Every refusal number has a name, and stands in the header in the table's order.
+NAMES = ('FILE_LENGTH', 'UNDER_SIX_WORDS', 'FORM', 'OFFICE_COUNT', 'COUNTS', 'OFFSET_OR_LENGTH', 'NODE_TYPE',
+         'NUMBER_OR_VARIANT', 'NODE_OFFICES', 'NODE_REPEATED', 'NODE_ORDER', 'EDGE_KIND', 'EDGE_END', 'END_TYPES',
+         'WITHIN_ITSELF', 'EDGE_OFFICES', 'EDGE_REPEATED', 'EDGE_ORDER', 'OFFICE', 'RULE', 'UNKNOWN_PERSON', 'UNKNOWN_DEED',
+         'UNKNOWN_CATEGORY', 'UNKNOWN_FOLIO', 'EQUAL_DEEDS', 'IN_NEITHER_SHEET', 'NOT_ONE_OFFICE', 'UNION_NODES',
+         'UNION_EDGES', 'NO_SUCH_PATH', 'OUTPUT_TOO_SHORT')
+CONSTANTS = list(zip(NAMES, SENTENCES))
+
+
+def wanted():
+    return ''.join(line + '\n' for line in lines())
+
+
+def built(room):
+    """By the kit's compiler, on x86-64 and on Arm."""
+    program = room.path / 'library'
+    ran = run(['bash', 'tools/link', program, 'tests/library.c'], cwd=TOP)
+    yield Finding('a program over the whole header is built', '' if ran.status == 0 else (ran.out + ran.err).decode())
+    yield held('every function of the header', run([*START, program]), 0, wanted())
+    header = (TOP / 'include' / 'tormukai.h').read_text()
+    named = re.findall(r'^#define TORMUKAI_REFUSED_(\w+) (\d+)$', header, re.M)
+    yield Finding("the header's refusal numbers", differs('names', CONSTANTS, [(name, int(number)) for name, number in named]))
+
+
+def by_gcc(room):
+    program = room.path / 'plain'
+    ran = run(['gcc', '-O2', '-Wall', '-Wextra', '-Werror', '-Iinclude', '-o', program, 'tests/library.c',
+               'target/library/libtormukai.a'], cwd=TOP)
+    yield Finding('built by gcc', '' if ran.status == 0 else ran.err.decode())
+    yield held('linked by gcc', run([program]), 0, wanted())
+
+
+def by_rust(room):
+    """The lines of docs/COUNTER.md under 'From Rust', within a program that prints the answer."""
+    page = (TOP / 'docs' / 'COUNTER.md').read_text()
+    section = page.partition('\n## From Rust\n')[2].partition('\n## ')[0]
+    code = re.findall(r'^    (.*)$', section, re.M)
+    source = '\n'.join([line for line in code if not line.startswith('let ')] + [
+        'fn main() {', 'let file = std::fs::read(std::env::args().nth(1).unwrap()).unwrap();',
+        *(line for line in code if line.startswith('let ')),
+        'println!("{} {} {} {} {}", a.number, a.sheet, a.row, a.value, a.count);', '}', ''])
+    (room.path / 'yours.rs').write_text(source)
+    program = room.path / 'yours'
+    ran = run(['rustc', '-O', '-D', 'warnings', '-L', 'native=target/library', '-o', program, room.path / 'yours.rs'], cwd=TOP)
+    yield Finding('built by Rust', '' if ran.status == 0 else ran.err.decode())
+    yield held('linked by Rust', run([program, room.file(A.file())]), 0, '0 0 0 1 0\n')
+
+
+def tests(room):
+    yield partial(built, room)
+    if platform.machine() == 'x86_64':
+        yield partial(by_gcc, room)
+        yield partial(by_rust, room)

@@ -1,0 +1,341 @@
+"""What each verb has to answer, from document 01 alone. A reply is the fields that `--json` prints.
+
+Nothing here is fast or clever, and nothing is taken from the crates: paths are listed one by one, so that only small sheets can
+be asked about them.
+"""
+import struct
+
+from .expect import KINDS, TYPES, Refused, answered
+from .sheets import APPLIES, BAN, CATEGORY, DEED, FOLIO, GRANT, MEMBER, MOST_BYTES, MOST_EDGES, MOST_NODES, PERSON, WITHIN
+from .sheets import Edge, Node, Sheet
+
+ENDS = {MEMBER: (PERSON, CATEGORY), WITHIN: (CATEGORY, CATEGORY), GRANT: (CATEGORY, DEED), BAN: (CATEGORY, DEED),
+        APPLIES: (DEED, FOLIO)}
+
+
+# ---- The check
+
+def read(data, place=1):
+    """The sheet that a file holds, or its refusal at this place."""
+    if len(data) % 4 or len(data) > MOST_BYTES:
+        raise Refused(33, place)
+    words = struct.unpack(f'<{len(data) // 4}I', data)
+    if len(words) < 6:
+        raise Refused(1, place)
+    form, offices, n, e, nodes_at, edges_at = words[:6]
+    if form != 1:
+        raise Refused(2, place)
+    if offices not in (1, 2):
+        raise Refused(3, place)
+    if n > MOST_NODES or e > MOST_EDGES:
+        raise Refused(4, place)
+    if (nodes_at, edges_at, len(words)) != (6, 6 + 4 * n, 6 + 4 * n + 4 * e):
+        raise Refused(5, place)
+    rows = [words[at:at + 4] for at in range(6, len(words), 4)]
+    nodes, edges = [], []
+    for row in rows[:n]:
+        number = node_fault(Node(*row), nodes, offices)
+        if number:
+            raise Refused(number, place, len(nodes))
+        nodes.append(Node(*row))
+    for row in rows[n:]:
+        number = edge_fault(Edge(*row), edges, nodes)
+        if number:
+            raise Refused(number, place, len(edges))
+        edges.append(Edge(*row))
+    return Sheet(offices, tuple(nodes), tuple(edges))
+
+
+def node_fault(node, before, offices):
+    if node.type not in TYPES:
+        return 6
+    if node.number == 0 or node.variant != 0 and node.type != DEED:
+        return 7
+    if node.marks not in ((1,) if offices == 1 else (1, 2, 3)):
+        return 8
+    if before and node.identity == before[-1].identity:
+        return 9
+    if before and node.identity < before[-1].identity:
+        return 10
+    return 0
+
+
+def edge_fault(edge, before, nodes):
+    if edge.kind not in ENDS:
+        return 11
+    if edge.start >= len(nodes) or edge.end >= len(nodes):
+        return 12
+    start, end = nodes[edge.start], nodes[edge.end]
+    if (start.type, end.type) != ENDS[edge.kind]:
+        return 13
+    if edge.kind == WITHIN and edge.start == edge.end:
+        return 14
+    if edge.marks == 0 or edge.marks != edge.marks & start.marks & end.marks:
+        return 15
+    if before and edge[:3] == before[-1][:3]:
+        return 16
+    if before and edge[:3] < before[-1][:3]:
+        return 17
+    return 0
+
+
+# ---- What an office sees
+
+def mark(office):
+    return 1 << office - 1
+
+
+def need_office(sheet, office):
+    if not 1 <= office <= sheet.offices:
+        raise Refused(20)
+
+
+def numbers(sheet, type_, office=None):
+    """The numbers of this type, rising, at an office or (None) at any."""
+    return sorted({node.number for node in sheet.nodes if node.type == type_ and (office is None or node.marks & mark(office))})
+
+
+def need(sheet, type_, number, office=None):
+    if number not in numbers(sheet, type_, office):
+        raise Refused({PERSON: 21, DEED: 22, CATEGORY: 24, FOLIO: 23}[type_])
+
+
+def pairs(sheet, office, kind):
+    """The ends of the edges of a kind that an office sees, as identities."""
+    return [(sheet.nodes[edge.start].identity, sheet.nodes[edge.end].identity)
+            for edge in sheet.edges if edge.kind == kind and edge.marks & mark(office)]
+
+
+def paths(sheet, office, ban, person, deed, folio):
+    """Every grant path, or every ban path, each as the list of its identities."""
+    member, within, gives, applies = (pairs(sheet, office, kind) for kind in (MEMBER, WITHIN, BAN if ban else GRANT, APPLIES))
+    steps = [(end, start) for start, end in within] if ban else within
+
+    def walks(path):
+        yield path
+        for start, end in steps:
+            if start == path[-1] and end not in path:
+                yield from walks(path + [end])
+
+    return [walk + [given, place]
+            for who, category in member if who[1] == person
+            for walk in walks([who, category])
+            for holder, given in gives if holder == walk[-1] and given[1] == deed
+            for which, place in applies if which == given and place[1] == folio]
+
+
+def value(sheet, office, person, deed, folio):
+    return (1 if paths(sheet, office, False, person, deed, folio) else 0) + (
+        2 if paths(sheet, office, True, person, deed, folio) else 0)
+
+
+def above(within, category):
+    """The categories that contain this one over one or more steps; itself too where it stands in a ring."""
+    found, last = set(), {category}
+    while last:
+        last = {end for start, end in within if start in last} - found
+        found |= last
+    return found
+
+
+# ---- The ten questions
+
+def check(sheet):
+    return {'offices': sheet.offices, 'nodes': len(sheet.nodes), 'edges': len(sheet.edges)}
+
+
+def answer(sheet, office, person, deed, folio):
+    need_triple(sheet, office, person, deed, folio)
+    got = value(sheet, office, person, deed, folio)
+    return {'answer': answered(got), 'value': got}
+
+
+def need_triple(sheet, office, person, deed, folio):
+    need_office(sheet, office)
+    for type_, number in (PERSON, person), (DEED, deed), (FOLIO, folio):
+        need(sheet, type_, number, office)
+
+
+def joint(sheet, rule, person, deed, folio):
+    if rule not in (1, 2, 3):
+        raise Refused(27)
+    for type_, number in (PERSON, person), (DEED, deed), (FOLIO, folio):
+        need(sheet, type_, number)
+    got, decider = decide(rule, [value(sheet, office, person, deed, folio) for office in range(1, sheet.offices + 1)])
+    return {'answer': answered(got), 'value': got, 'office': decider}
+
+
+def decide(rule, values):
+    granting = [office for office, got in enumerate(values, 1) if got in (1, 3)]
+    banning = [office for office, got in enumerate(values, 1) if got in (2, 3)]
+    if rule == 3:
+        return next(((got, office) for office, got in enumerate(values, 1) if got), (0, 0))
+    facts = [(1, granting), (2, banning)]
+    return next(((got, offices[0]) for got, offices in (facts if rule == 1 else facts[::-1]) if offices), (0, 0))
+
+
+def witness(sheet, office, kind, person, deed, folio):
+    need_triple(sheet, office, person, deed, folio)
+    found = paths(sheet, office, kind == 'ban', person, deed, folio)
+    if not found:
+        raise Refused(26)
+    best = min(found, key=lambda path: (len(path), [identity[1:] for identity in path]))
+    return {'path': [identity_object(identity) for identity in best]}
+
+
+def path(sheet, office, kind, person, deed, folio, nodes):
+    """The nodes are (type or None, number, variant)."""
+    need_office(sheet, office)
+    listed = paths(sheet, office, kind == 'ban', person, deed, folio)
+    return {'path': any(len(nodes) == len(found) and all(
+        typed in (None, identity[0]) and (number, variant) == identity[1:]
+        for (typed, number, variant), identity in zip(nodes, found)) for found in listed)}
+
+
+def persons(sheet, office, category):
+    need_office(sheet, office)
+    need(sheet, CATEGORY, category, office)
+    within, asked = pairs(sheet, office, WITHIN), (CATEGORY, category, 0)
+    return {'persons': sorted({who[1] for who, place in pairs(sheet, office, MEMBER)
+                               if place == asked or asked in above(within, place)})}
+
+
+def holders(sheet, office, deed, folio):
+    need_office(sheet, office)
+    need(sheet, DEED, deed, office)
+    need(sheet, FOLIO, folio, office)
+    return {'persons': [who for who in numbers(sheet, PERSON, office) if paths(sheet, office, False, who, deed, folio)]}
+
+
+def unreached(sheet, office):
+    need_office(sheet, office)
+    return {'folios': [folio for folio in numbers(sheet, FOLIO, office) if not any(
+        paths(sheet, office, False, who, deed, folio)
+        for who in numbers(sheet, PERSON, office) for deed in numbers(sheet, DEED, office))]}
+
+
+def conflict(sheet, office):
+    need_office(sheet, office)
+    for who in numbers(sheet, PERSON, office):
+        for deed in numbers(sheet, DEED, office):
+            for folio in numbers(sheet, FOLIO, office):
+                if value(sheet, office, who, deed, folio) == 3:
+                    return {'person': who, 'deed': deed, 'folio': folio}
+    raise Refused(26)
+
+
+def duties(sheet, office, deed, other):
+    need_office(sheet, office)
+    need(sheet, DEED, deed, office)
+    need(sheet, DEED, other, office)
+    if deed == other:
+        raise Refused(31)
+    for who in numbers(sheet, PERSON, office):
+        for folio in numbers(sheet, FOLIO, office):
+            if all(paths(sheet, office, False, who, each, folio) for each in (deed, other)):
+                return {'person': who, 'folio': folio}
+    raise Refused(26)
+
+
+def redundant(sheet, office):
+    need_office(sheet, office)
+    rows = [row for row, edge in enumerate(sheet.edges) if edge.marks & mark(office) and is_redundant(sheet, office, edge)]
+    return {'edges': [edge_object(sheet, row) for row in rows]}
+
+
+def is_redundant(sheet, office, edge):
+    start, end = sheet.nodes[edge.start].identity, sheet.nodes[edge.end].identity
+    within = pairs(sheet, office, WITHIN)
+    alike = pairs(sheet, office, edge.kind)
+    if edge.kind == MEMBER:
+        return any(who == start and other != end and end in above(within, other) for who, other in alike)
+    if edge.kind == WITHIN:
+        return longer_way(within, [start], end)
+    if edge.kind == GRANT:
+        return any(deed == end and other != start and other in above(within, start) for other, deed in alike)
+    if edge.kind == BAN:
+        return any(deed == end and other != start and start in above(within, other) for other, deed in alike)
+    return False
+
+
+def longer_way(within, path, end):
+    """Whether two or more containments through distinct categories lead on to the end."""
+    onward = [following for start, following in within if start == path[-1] and following not in path]
+    return end in onward and len(path) > 1 or any(
+        longer_way(within, path + [following], end) for following in onward if following != end)
+
+
+# ---- Two sheets, one office of a sheet, and the rows
+
+def find(first, second, type_, number, variant):
+    for place, sheet in (1, first), (2, second):
+        for row, node in enumerate(sheet.nodes):
+            if node.identity == (type_, number, variant):
+                return {'sheet': place, 'node': node_object(sheet, row)}
+    raise Refused(32)
+
+
+def relations(sheet):
+    return {(edge.kind, sheet.nodes[edge.start].identity, sheet.nodes[edge.end].identity): edge.marks for edge in sheet.edges}
+
+
+def rebuilt(offices, identities, edges):
+    """The sheet of these identities and relations, each with its marks."""
+    nodes = [Node(*identity, identities[identity]) for identity in sorted(identities)]
+    row = {node.identity: at for at, node in enumerate(nodes)}
+    return Sheet(offices, tuple(nodes), tuple(sorted(
+        Edge(kind, row[start], row[end], marks) for (kind, start, end), marks in edges.items())))
+
+
+def fused(first, second):
+    """The keys of both, marked 1, 2 or 3."""
+    return {key: (1 if key in first else 0) + (2 if key in second else 0) for key in {**first, **second}}
+
+
+def join(first, second):
+    """The reply and the joint sheet."""
+    for place, sheet in (1, first), (2, second):
+        if sheet.offices != 1:
+            raise Refused(28, place)
+    identities = fused(*({node.identity: 1 for node in sheet.nodes} for sheet in (first, second)))
+    edges = fused(relations(first), relations(second))
+    if len(identities) > MOST_NODES:
+        raise Refused(29)
+    if len(edges) > MOST_EDGES:
+        raise Refused(30)
+    result = rebuilt(2, identities, edges)
+    return {'nodes': len(identities), 'shared_nodes': sum(marks == 3 for marks in identities.values()),
+            'edges': len(edges), 'shared_edges': sum(marks == 3 for marks in edges.values()),
+            'bytes': len(result.file())}, result
+
+
+def take(sheet, office):
+    """The reply and the office's sheet."""
+    need_office(sheet, office)
+    result = rebuilt(1, {node.identity: 1 for node in sheet.nodes if node.marks & mark(office)},
+                     {key: 1 for key, marks in relations(sheet).items() if marks & mark(office)})
+    return {'nodes': len(result.nodes), 'edges': len(result.edges), 'bytes': len(result.file())}, result
+
+
+def show(sheet):
+    return {'form': 1, 'offices': sheet.offices, 'nodes': [node_object(sheet, row) for row in range(len(sheet.nodes))],
+            'edges': [edge_object(sheet, row) for row in range(len(sheet.edges))]}
+
+
+def identity_object(identity):
+    return {'type': TYPES[identity[0]], 'number': identity[1], 'variant': identity[2]}
+
+
+def offices_of(marks):
+    return [office for office in (1, 2) if marks & mark(office)]
+
+
+def node_object(sheet, row):
+    node = sheet.nodes[row]
+    return {'row': row, **identity_object(node.identity), 'offices': offices_of(node.marks)}
+
+
+def edge_object(sheet, row):
+    edge = sheet.edges[row]
+    return {'row': row, 'kind': KINDS[edge.kind], 'from': identity_object(sheet.nodes[edge.start].identity),
+            'to': identity_object(sheet.nodes[edge.end].identity), 'offices': offices_of(edge.marks)}

@@ -1,0 +1,46 @@
+"""The tests can fail: what is known to be wrong has to be noticed."""
+from .drive import Finding, Ran, ask, held, held_json, same
+from .expect import Refused
+from .known import says
+from .sheets import A, HARBOUR
+from . import drawn
+
+
+def noticed(label, findings):
+    """A finding for each of these that was not noticed, or one that all were."""
+    missed = [finding.label for finding in findings if not finding.fault]
+    return Finding(f'wrong on purpose, and noticed: {label}', '' if not missed else f'  not noticed: {missed}\n')
+
+
+def tests(room):
+    yield lambda: runs(room)
+    yield comparisons
+
+
+def runs(room):
+    """The command itself, held to answers that are wrong."""
+    a = room.file(A.file())
+    yield noticed('another answer', ask('wrong', 'answer', [a, 1, 11, 31, 41], says(2)))
+    yield noticed('an answer for a refusal', ask('wrong', 'conflict', [a, 1], {'person': 11, 'deed': 31, 'folio': 42}))
+    yield noticed('another place', ask('wrong', 'check', ['/dev/null'], Refused(1, 2)))
+    yield noticed('a list that is too short', ask('wrong', 'persons', [a, 1, 22], {'persons': [11]}))
+    accepted = {'offices': 1, 'nodes': 8, 'edges': 7}
+    yield noticed('a line on standard error', ask('wrong', 'check', [a], accepted, 'counter: a: lost\n'))
+    graph = drawn.draw('', room.file(A.file()), ['1'])[1]
+    yield noticed("another sheet's picture", drawn.rows_drawn('wrong', graph, HARBOUR, 1))
+
+
+def comparisons():
+    """The comparing alone."""
+    line = b'{"verb":"check","refusal":null,"offices":1}\n'
+    right = {'verb': 'check', 'refusal': None, 'offices': 1}
+    yield held_json('the right object', Ran(0, line, b''), 0, right)
+    for label, wrong in (('another order', b'{"refusal":null,"verb":"check","offices":1}\n'),
+                         ('a fraction', line.replace(b'1', b'1.0')), ('a truth', line.replace(b'1', b'true')),
+                         ('a text', line.replace(b'1', b'"1"')), ('no line feed', line[:-1]), ('two lines', line + b'\n'),
+                         ('a name twice', line.replace(b'}', b',"offices":1}')), ('cut', line[:-3]),
+                         ('more', line.replace(b'}', b',"nodes":1}')), ('nothing', b'')):
+        yield noticed(label, [held_json(label, Ran(0, wrong, b''), 0, right)])
+    for label, ran in ('status', Ran(1, b'yes\n', b'')), ('output', Ran(0, b'yes', b'')), ('errors', Ran(0, b'yes\n', b'x')):
+        yield noticed(label, [held(label, ran, 0, 'yes\n')])
+    yield noticed('values', [same('values', 1, 2)])
