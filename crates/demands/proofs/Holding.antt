@@ -5,12 +5,13 @@ use mathlib.Core.Path.{_≡_, refl, sym, ap, ap₂, _∙_}
 use mathlib.Core.List.{List, []}
 use mathlib.Core.Logic.{_↔_}
 use native.Mathlib.Omega.{arith}
-use lib.ListN.{length, drop, length-drop}
+use lib.ListN.{length, take, drop, length-drop}
 use lib.Seq.{length-take-le}
 use Rattle.tables.specs.Key.{Key}
 use Rattle.tables.specs.Table.{marksAt}
 use Rattle.sheet.specs.declared.Refusal.{Refusal}
 use Rattle.sheet.specs.Limits.{nodeWords, edgesFrom, maxNodes, maxEdges, sheetWords}
+use Rattle.sheet.specs.Parts.{Part}
 use Rattle.sheet.specs.Rows.{headerOf}
 use Rattle.sheet.specs.Accepted.{Accepted}
 use Rattle.sheet.specs.Named.{tablesOf, seenAt}
@@ -32,7 +33,7 @@ use Rattle.opened.specs.declared.Which.the-variants.{AtOffice, Joint, Witness, 
 use Rattle.opened.specs.Asking.{questionOf, Answers}
 use Rattle.files.specs.Bytes.{wordsOf}
 use Rattle.counter.proofs.Single.{bytes-one}
-use Rattle.lookup.specs.Looked.{rowWords, lookFault, LooksUp, refused, in-first, in-second}
+use Rattle.lookup.specs.Looked.{lookFault, LooksUp, refused, in-first, in-second}
 use Rattle.join.specs.declared.Joined.{Joined}
 use Rattle.join.specs.Joined.{unionNodes, unionEdges, sheetsFault, unionFault, joinFault, Joining, joined, refused as not-joined}
 use Rattle.join.proofs.Refusing.{none-refused, in-none, union-passes}
@@ -44,7 +45,7 @@ use Rattle.demands.proofs.Least.{none-first, none-least}
 use Rattle.demands.proofs.Answering.{told-is, four, gives-exactly, by-priority, by-order, yes-is, front-is, missing-only}
 
 -- a row has words
-row-some : (s : List ℕ) (i : ℕ) → Accepted s → i < headerOf s .nodes → rowWords s i ≡ [] → ⊥
+row-some : (s : List ℕ) (i : ℕ) → Accepted s → i < headerOf s .nodes → take nodeWords (drop (edgesFrom i) s) ≡ [] → ⊥
 row-some s i w l e =
     let n = ap length e in
     let h = w .nodes .header .whole in
@@ -52,10 +53,10 @@ row-some s i w l e =
     let k = length-take-le nodeWords (drop (edgesFrom i) s) (omega (arith, h, m, l)) in
     omega (arith, n, k)
 
-look : (a b : List ℕ) (k : Key) {ws : List ℕ} → LooksUp a b k ws → (ws ≡ []) ↔ (lookFault a b k .number ≡ 0 → ⊥)
+look : (a b : Part) (k : Key) {p : Part} → LooksUp a b k p → (p .words ≡ []) ↔ (lookFault (a .words) (b .words) k .number ≡ 0 → ⊥)
 look a b k (refused h) = (λ e. h, λ h′. refl)
-look a b k (in-first i z l e) = (λ n. absurd (row-some a i (both-accepted a b k (lookFault a b k) refl z .0) l n), λ h. absurd (h z))
-look a b k (in-second i z m l e) = (λ n. absurd (row-some b i (both-accepted a b k (lookFault a b k) refl z .1) l n), λ h. absurd (h z))
+look a b k (in-first i z l e) = (λ n. absurd (row-some (a .words) i (both-accepted (a .words) (b .words) k _ refl z .0) l n), λ h. absurd (h z))
+look a b k (in-second i z m l e) = (λ n. absurd (row-some (b .words) i (both-accepted (a .words) (b .words) k _ refl z .1) l n), λ h. absurd (h z))
 
 as-words : (which : Which) (s : List ℕ) (q : Question) (out : List ℕ) (a : Answer) (out′ : List ℕ) → Answers (questionOf which) s q out a out′ → OfWords which s q out a out′
 unfolding questionOf Answers

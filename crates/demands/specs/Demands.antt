@@ -10,6 +10,7 @@ use lib.ListN.{length, take, drop}
 use Rattle.tables.specs.Key.{Key}
 use Rattle.tables.specs.Table.{marksAt}
 use Rattle.sheet.specs.declared.Refusal.{Refusal}
+use Rattle.sheet.specs.Parts.{Part}
 use Rattle.sheet.specs.Limits.{maxNodes, maxEdges, sheetWords}
 use Rattle.sheet.specs.Refusals.{none, _orElse_}
 use Rattle.sheet.specs.Rows.{headerOf}
@@ -111,7 +112,7 @@ pub record Demand1 : Type 0 where
   pub counter-3 : (f : List ℕ) (q : Question) (out : List ℕ) {a : Answer} {out′ : List ℕ} → Shows (afterFile f (askFault (wordsOf f) q)) (InBytes (WitnessOf (wordsOf f) q)) out a out′
       → KeepsTable (afterFile f) (askFault (wordsOf f) q) (InBytes (WitnessOf (wordsOf f) q)) out a out′
   -- a refused lookup gives the empty part, and no other does
-  pub look-up : (a b : List ℕ) (k : Key) {ws : List ℕ} → LooksUp a b k ws → (ws ≡ []) ↔ (lookFault a b k .number ≡ 0 → ⊥)
+  pub look-up : (a b : Part) (k : Key) {p : Part} → LooksUp a b k p → (p .words ≡ []) ↔ (lookFault (a .words) (b .words) k .number ≡ 0 → ⊥)
   pub look-up-place : (a b : List ℕ) (k : Key) {x : Answer} → PlacesIdentity a b k x → saidIn x ≡ lookFault a b k
 
 -- ==== Demand 2: the answers are those of category-based access control, exactly as its paths exist in the office asked, with the shortest path shown; a path is refused only where there is none

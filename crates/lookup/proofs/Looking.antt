@@ -1,11 +1,11 @@
 -- What a search for an identity tells of a sheet: that it has the identity, where its row stands, and what a lookup gives.
 -- Assumes nothing.
-use Prim.Native.Nat.{ℕ, _+_, _-_, _/_, _<_, _≤_}
+use Prim.Native.Nat.{ℕ, _+_, _*_, _-_, _/_, _<_, _≤_}
 use native.Mathlib.Omega.{arith}
 use native.Mathlib.Decide.{decLt}
-use mathlib.Core.Path.{_≡_, refl, sym, ap, subst, _∙_}
+use mathlib.Core.Path.{_≡_, refl, sym, ap, ap₂, subst, _∙_}
 use mathlib.Core.Bool.{Bool, true, false, not, _||_, true≢false}
-use mathlib.Core.List.{List, []}
+use mathlib.Core.List.{List}
 use lib.ListN.{length, take, drop, length-take}
 use Rattle.tables.specs.Key.{Key}
 use Rattle.tables.proofs.Counts.{has-row, has-not}
@@ -14,6 +14,7 @@ use Rattle.sheet.specs.declared.Header.{Header}
 use Rattle.sheet.specs.declared.Found.the-variants.{At, Nowhere}
 use Rattle.sheet.specs.declared.Found.{Found}
 use Rattle.sheet.specs.Limits.{nodeWords, edgesFrom}
+use Rattle.sheet.specs.Parts.{Part, stretch}
 use Rattle.sheet.specs.Refusals.{_when_otherwise_, none, refuse}
 use Rattle.sheet.specs.Rows.{headerOf, nodeKeyAt}
 use Rattle.sheet.specs.Verdict.{verdict}
@@ -115,15 +116,6 @@ module _ (a b : List ℕ) (k : Key) where
     fault : lookFault a b k .number ≡ r .number
     fault = sym (ap (λ (x : Refusal). x .number) f)
 
-    pub gives-none : (r .number ≡ 0 → ⊥) → LooksUp a b k []
-    gives-none z = refused (λ e. z (sym fault ∙ e))
-
-    pub gives-first : (at : ℕ) → r .number ≡ 0 → Row a k at → LooksUp a b k (take nodeWords (drop at a))
-    gives-first at z x = subst (λ (y : ℕ). LooksUp a b k (take nodeWords (drop y a))) (sym (x .place)) (in-first (x .row) (fault ∙ z) (x .inside) (x .names))
-
-    pub gives-second : (at : ℕ) → r .number ≡ 0 → hasIdentity a k ≡ false → Row b k at → LooksUp a b k (take nodeWords (drop at b))
-    gives-second at z h x = subst (λ (y : ℕ). LooksUp a b k (take nodeWords (drop y b))) (sym (x .place)) (in-second (x .row) (fault ∙ z) h (x .inside) (x .names))
-
     -- nothing is refused, so both sheets are accepted, and one that the first does not have is in the second
     pub both-accepted : r .number ≡ 0 → Accepted a × Accepted b
     unfolding lookFault
@@ -165,15 +157,46 @@ module _ (a b : List ℕ) (k : Key) where
     pub places-second : (x : Answer) (at row : ℕ) → r .number ≡ 0 → hasIdentity a k ≡ false → Row b k at → row ≡ (at - 6) / 4 → x ≡ tells 2 row → PlacesIdentity a b k x
     places-second x at row z h w q e = answers x 2 row z (subst (StandsIn a b k 2) (sym (q ∙ row-counted b k at w)) (of-second (w .row) h (w .inside) (w .names))) e
 
+-- ---- which part is given
+
+-- words of a part, as the code reaches them: from word i to word e, at that many times four bytes
+abbrev reached : Part → ℕ → ℕ → Part
+reached p i e = record { block = p .block; offset = i * 4 + p .offset; words = take (e - i) (drop i (p .words)) }
+
+-- they are a stretch of it
+reached-is : (p : Part) (i e n : ℕ) → e ≡ i + n → stretch p i n ≡ reached p i e
+reached-is p i e n q =
+    let l : n ≡ e - i = omega (arith, q) in
+    let o : p .offset + 4 * i ≡ i * 4 + p .offset = omega arith in
+    ap₂ (λ (x y : ℕ). record { block = p .block; offset = x; words = take y (drop i (p .words)) }) o l
+
+module _ (a b : Part) (k k′ : Key) (r : Refusal) (f : r ≡ lookFault (a .words) (b .words) k) (named : k ≡ k′) where
+  fault-of : lookFault (a .words) (b .words) k .number ≡ r .number
+  fault-of = sym (ap (λ (x : Refusal). x .number) f)
+
+  -- by the key that was asked for
+  asked : (x y : Part) → x ≡ y → LooksUp a b k x → LooksUp a b k′ y
+  asked x y e w = subst (λ (p : Part). LooksUp a b k′ p) e (subst (λ (j : Key). LooksUp a b j x) named w)
+
+  pub gives-none : (r .number ≡ 0 → ⊥) → LooksUp a b k′ (reached a 0 0)
+  gives-none z = asked _ _ (reached-is a 0 0 0 refl) (refused (λ e. z (sym fault-of ∙ e)))
+
+  pub gives-first : (at : ℕ) → r .number ≡ 0 → Row (a .words) k at → LooksUp a b k′ (reached a at (at + 4))
+  gives-first at z x =
+      asked _ _ (reached-is a at (at + 4) nodeWords refl)
+      (subst (λ (y : ℕ). LooksUp a b k (stretch a y nodeWords)) (sym (x .place)) (in-first (x .row) (fault-of ∙ z) (x .inside) (x .names)))
+
+  pub gives-second : (at : ℕ) → r .number ≡ 0 → hasIdentity (a .words) k ≡ false → Row (b .words) k at → LooksUp a b k′ (reached b at (at + 4))
+  gives-second at z h x =
+      asked _ _ (reached-is b at (at + 4) nodeWords refl)
+      (subst (λ (y : ℕ). LooksUp a b k (stretch b y nodeWords)) (sym (x .place)) (in-second (x .row) (fault-of ∙ z) h (x .inside) (x .names)))
+
 -- by the key that was asked for
 pub place-part : (a b : List ℕ) (k k′ : Key) (x : Answer) → k ≡ k′ → PlacesIdentity a b k x → PlacesIdentity a b k′ x
 place-part a b k k′ x e y = subst (λ (j : Key). PlacesIdentity a b j x) e y
 
-pub four-part : (a b : List ℕ) (k k′ : Key) (ws ws′ : List ℕ) → k ≡ k′ → ws ≡ ws′ → LooksUp a b k ws → LooksUp a b k′ ws′
-four-part a b k k′ ws ws′ e f x = subst (λ (y : List ℕ). LooksUp a b k′ y) f (subst (λ (y : Key). LooksUp a b y ws) e x)
-
 -- a part has four words, or none
-pub looked-long : (a b : List ℕ) (k : Key) (ws : List ℕ) → LooksUp a b k ws → length ws ≤ 4
-looked-long a b k ws (refused z) = omega arith
-looked-long a b k ws (in-first i e l n) = omega (arith, length-take nodeWords (drop (edgesFrom i) a))
-looked-long a b k ws (in-second i e h l n) = omega (arith, length-take nodeWords (drop (edgesFrom i) b))
+pub looked-long : (a b : Part) (k : Key) (p : Part) → LooksUp a b k p → length (p .words) ≤ 4
+looked-long a b k p (refused z) = omega (arith, length-take 0 (drop 0 (a .words)))
+looked-long a b k p (in-first i e l n) = omega (arith, length-take nodeWords (drop (edgesFrom i) (a .words)))
+looked-long a b k p (in-second i e h l n) = omega (arith, length-take nodeWords (drop (edgesFrom i) (b .words)))

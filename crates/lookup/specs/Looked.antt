@@ -3,12 +3,13 @@
 use Prim.Native.Nat.{ℕ, _<_}
 use mathlib.Core.Path.{_≡_}
 use mathlib.Core.Bool.{Bool, false, not, _||_}
-use mathlib.Core.List.{List, []}
-use lib.ListN.{length, take, drop}
+use mathlib.Core.List.{List}
+use lib.ListN.{length}
 use Rattle.tables.specs.Count.{has}
 use Rattle.tables.specs.Key.{Key}
 use Rattle.sheet.specs.declared.Refusal.{Refusal}
 use Rattle.sheet.specs.Limits.{nodeWords, edgesFrom}
+use Rattle.sheet.specs.Parts.{Part, stretch}
 use Rattle.sheet.specs.Refusals.{_when_otherwise_, none, refuse, _then_}
 use Rattle.sheet.specs.Rows.{headerOf, nodeKeyAt}
 use Rattle.sheet.specs.Verdict.{verdict}
@@ -27,15 +28,15 @@ neither a b k = 32 when not (hasIdentity a k || hasIdentity b k) otherwise 0
 unfoldable pub lookFault : List ℕ → List ℕ → Key → Refusal
 lookFault a b k = verdict 1 a then (verdict 2 b then refuse (neither a b k) 0 0 none)
 
--- the four words of node row i, as they stand
-abbrev pub rowWords : List ℕ → ℕ → List ℕ
-rowWords s i = take nodeWords (drop (edgesFrom i) s)
+-- the four words of node row i, where they stand
+abbrev pub rowPart : Part → ℕ → Part
+rowPart s i = stretch s (edgesFrom i) nodeWords
 
--- the part that a lookup gives: the empty one where refused, else the row of the first sheet that has the identity, first before second
-pub data LooksUp (a b : List ℕ) (k : Key) : List ℕ → Type 0 where
-  refused : (lookFault a b k .number ≡ 0 → ⊥) → LooksUp a b k []
-  in-first : (i : ℕ) → lookFault a b k .number ≡ 0 → i < headerOf a .nodes → nodeKeyAt a i ≡ k → LooksUp a b k (rowWords a i)
-  in-second : (i : ℕ) → lookFault a b k .number ≡ 0 → hasIdentity a k ≡ false → i < headerOf b .nodes → nodeKeyAt b i ≡ k → LooksUp a b k (rowWords b i)
+-- the part that a lookup gives: the empty one where refused, else the row of the first sheet that has the identity, first before second; no copy
+pub data LooksUp (a b : Part) (k : Key) : Part → Type 0 where
+  refused : (lookFault (a .words) (b .words) k .number ≡ 0 → ⊥) → LooksUp a b k (stretch a 0 0)
+  in-first : (i : ℕ) → lookFault (a .words) (b .words) k .number ≡ 0 → i < headerOf (a .words) .nodes → nodeKeyAt (a .words) i ≡ k → LooksUp a b k (rowPart a i)
+  in-second : (i : ℕ) → lookFault (a .words) (b .words) k .number ≡ 0 → hasIdentity (a .words) k ≡ false → i < headerOf (b .words) .nodes → nodeKeyAt (b .words) i ≡ k → LooksUp a b k (rowPart b i)
 
 -- where the row stands that a lookup gives: in the first sheet or the second, and at which node row; first before second
 pub data StandsIn (a b : List ℕ) (k : Key) : ℕ → ℕ → Type 0 where

@@ -6,6 +6,7 @@ use sheet::Refusal;
 ghost use mathlib.Core.Path.{_≡_};
 ghost use Prim.Native.Nat.{_-_, _/_, _≤_};
 ghost use Rattle.tables.specs.Key.{identity};
+ghost use Rattle.sheet.specs.Parts.{lent};
 ghost use Rattle.sheet.specs.Rows.{nodeKey};
 ghost use Rattle.sheet.specs.Accepted.{Accepted};
 ghost use Rattle.lookup.specs.Looked.{neither, lookFault, LooksUp, PlacesIdentity, StandsAt};
@@ -65,7 +66,7 @@ pub fn look_up<'a>(
     number: u32,
     variant: u32,
 ) -> &'a [u32]
-    ensures { λ r. ⌜ LooksUp (now (first .entry)) (now (second .entry)) (identity class number variant) (now r) ⌝ }
+    ensures { λ r. ⌜ LooksUp (lent (first .entry)) (lent (second .entry)) (identity class number variant) (lent r) ⌝ }
 {
     let wanted = sheet::named(class, number, variant);
     let r = refusal_of(first, second, wanted);

@@ -1,10 +1,9 @@
--- `lookup::look_up` meets its contract: each part is the empty one, or the four words of a row that has the identity.
+-- `lookup::look_up` meets its contract: each part is the empty one, or the four words of a row that has the identity, where they stand.
 -- Assumes nothing.
-use Rattle.lookup.proofs.Looking.{Row, has-none, gives-none, gives-first, gives-second, both-accepted, first-row, second-row, four-part}
+use Rattle.lookup.proofs.Looking.{Row, has-none, gives-none, gives-first, gives-second, both-accepted, first-row, second-row}
+use Rattle.sheet.specs.Parts.{lent}
 use Rattle.sheet.specs.Rows.{nodeKey}
-use mathlib.Core.Path.{_≡_, refl}
 use native.Mathlib.Omega.{arith}
-use Prim.Native.Nat.{_+_, _-_}
 use borrow.Author.Needs.{needs}
 use Rattle.lookup.proofs.look_up.Statement.{statement}
 use Rattle.lookup.proofs.look_up.Tie as tie
@@ -26,8 +25,8 @@ part-result-end c = search needs
 
 returns : tie.Need-returns
 returns c =
-    let N = c .before .before .before .before .named .ensures in
-    four-part _ _ _ _ _ _ N refl (gives-none _ _ _ _ (c .before .before .before .refusal-of .ensures) (c .before .if1 .taken))
+    let A = c .before .before .before .before .before .before .before .args in
+    gives-none (lent (A .first)) (lent (A .second)) _ _ _ (c .before .before .before .refusal-of .ensures) (c .before .before .before .before .named .ensures) (c .before .if1 .taken)
 
 place-in-requires : tie.Need-place-in-requires
 place-in-requires c κs = both-accepted _ _ _ _ (c .before .before .refusal-of .ensures) (c .if1 .left) .0
@@ -49,11 +48,11 @@ part-result-end-2 c = first-row _ _ _ _ (c .before .before .before .before .refu
 
 returns-2 : tie.Need-returns-2
 returns-2 c =
-    let N = c .before .before .before .before .before .before .named .ensures in
+    let A = c .before .before .before .before .before .before .before .before .before .args in
     let R = c .before .before .before .before .before .refusal-of .ensures in
     let Z = c .before .before .before .if1 .left in
-    let e : c .before .before .place-in .result + 4 - c .before .before .place-in .result ≡ 4 = omega arith in
-    rw e (four-part _ _ _ _ _ _ N refl (gives-first _ _ _ _ R _ Z (first-row _ _ _ _ R _ Z (c .before .before .place-in .ensures) (c .before .if2 .taken))))
+    gives-first (lent (A .first)) (lent (A .second)) _ _ _ R (c .before .before .before .before .before .before .named .ensures) _ Z
+    (first-row _ _ _ _ R _ Z (c .before .before .place-in .ensures) (c .before .if2 .taken))
 
 place-in-requires-2 : tie.Need-place-in-requires-2
 place-in-requires-2 c κs = both-accepted _ _ _ _ (c .before .before .before .before .refusal-of .ensures) (c .before .before .if1 .left) .1
@@ -79,11 +78,11 @@ part-result-end-3 c = found c .room
 
 returns-3 : tie.Need-returns-3
 returns-3 c =
-    let N = c .before .before .before .before .before .before .before .named .ensures in
+    let A = c .before .before .before .before .before .before .before .before .before .before .args in
     let R = c .before .before .before .before .before .before .refusal-of .ensures in
     let Z = c .before .before .before .before .if1 .left in
-    let e : c .before .place-in2 .result + 4 - c .before .place-in2 .result ≡ 4 = omega arith in
-    rw e (four-part _ _ _ _ _ _ N refl (gives-second _ _ _ _ R _ Z (has-none _ _ _ (both-accepted _ _ _ _ R Z .0) (c .before .before .before .place-in .ensures) (c .before .before .if2 .left)) (found (c .before))))
+    gives-second (lent (A .first)) (lent (A .second)) _ _ _ R (c .before .before .before .before .before .before .before .named .ensures) _ Z
+    (has-none _ _ _ (both-accepted _ _ _ _ R Z .0) (c .before .before .before .place-in .ensures) (c .before .before .if2 .left)) (found (c .before))
 
 pub look-up-spec : {M : Type 1} → statement M
 look-up-spec =
