@@ -1,65 +1,119 @@
--- The union's counts from what is shared, and the whole result of a join that is not refused.
+-- Two sheets combined side by side are their join, and its counts are the union's.
 -- Assumes nothing.
-use Prim.Native.Nat.{ℕ, _+_, _-_, _≤_}
+use Prim.Native.Nat.{ℕ, suc, _+_, _-_, _*_, _^_, _<_, _≤_}
 use mathlib.Core.Path.{_≡_, sym, ap, subst, _∙_}
 use mathlib.Core.List.{List, _++_}
 use native.Mathlib.Omega.{arith}
 use lib.ListN.{length, drop}
+use Rattle.tables.specs.Count.{shared}
+use Rattle.tables.specs.Marks.{marked}
+use Rattle.tables.proofs.Marks.{marked-first, marked-second}
+use Rattle.tables.proofs.Alike.{marks-bounded}
 use Rattle.sheet.specs.declared.Header.{Header}
-use Rattle.sheet.specs.Limits.{sheetWords}
-use Rattle.sheet.specs.Rows.{headerOf}
-use Rattle.merge.specs.declared.Places.{Places}
-use Rattle.merge.specs.Lent.{Counts, PlacesAre}
+use Rattle.sheet.specs.Limits.{maxNodes, maxEdges, sheetWords}
+use Rattle.sheet.specs.Rows.{headerOf, edgeTable}
+use Rattle.sheet.specs.Accepted.{WellFormed, Accepted}
+use Rattle.sheet.specs.Named.{nodeRow, tablesOf}
+use Rattle.sheet.proofs.Naming.{nodes-rise, edges-rise, marks-held}
+use Rattle.meaning.specs.Join.{officesOf, IsJoin}
+use Rattle.combine.specs.declared.Part.the-variants.{Nodes, Edges}
+use Rattle.combine.specs.declared.Rule.the-variants.{Beside}
+use Rattle.combine.specs.declared.Measure.{Measure}
+use Rattle.combine.specs.Combined.{Making, keys}
+use Rattle.combine.specs.Parts.{rowAt}
+use Rattle.combine.specs.Sheets.{IsCombined, Pair, Measured, Laid}
+use Rattle.combine.proofs.Counting.{kept-both}
+use Rattle.combine.proofs.Reading.{part-table}
+use Rattle.combine.proofs.Ruling.{beside-pair}
 use Rattle.join.specs.declared.Joined.{Joined}
 use Rattle.join.specs.Joined.{sharedNodes, sharedEdges, unionNodes, unionEdges, tooMuch, unionFault, tells, Joins, joined}
-use Rattle.join.specs.Laid.{Joinable, nodePart, edgePart, Laid}
-use Rattle.join.proofs.Parts.{same-nodes, same-edges, node-rows, edge-rows}
-use Rattle.join.proofs.Matched.{shared-nodes, shared-edges}
+use Rattle.join.specs.Joinable.{jointOffices, jointShift, Joinable}
 use Rattle.join.proofs.Refusing.{within-limits, union-passes}
-use Rattle.join.proofs.Laying.{joint, joint-long, joint-nodes, joint-edges, laid-join}
 
-module _ (a : List ℕ) (h : Header) (A : Joinable a h) (b : List ℕ) (g : Header) (B : Joinable b g) (r : Places) (P : PlacesAre (nodePart a h) (nodePart b g) r) where
-  -- the union's node rows and the shared ones are as many as both sheets have
-  nodes-count : r .count + sharedNodes a b ≡ headerOf a .nodes + headerOf b .nodes
-  nodes-count =
-      omega (arith, P .count, shared-nodes a h A b g B, node-rows a h A, node-rows b g B, same-nodes a h A, same-nodes b g B)
+abbrev beside : Making
+beside x y = x + jointShift * y
 
-  pub nodes-union : r .count ≡ unionNodes a b
-  unfolding unionNodes
-  nodes-union = omega (arith, nodes-count)
+-- ---- such a sheet is the join
 
-  pub nodes-most : r .count ≤ h .nodes + g .nodes
-  nodes-most = omega (arith, nodes-count, same-nodes a h A, same-nodes b g B)
+pub join-is : (a b j : List ℕ) → Accepted a → Accepted b → jointShift ≡ 2 ^ officesOf a → jointOffices ≡ officesOf a + officesOf b → IsCombined beside beside jointOffices a b j → IsJoin a b j
+unfolding tablesOf
+join-is a b j va vb shift offices C =
+    record {
+      accepted = C .accepted;
+      offices = C .offices-are ∙ offices;
+      first = λ i l. marks-held j a (C .accepted) va (suc i) (suc i)
+          (λ k. joint (suc i) _ _ _ (C .nodes k) ∙ marked-first (officesOf a) _ _ i l)
+          (λ k. joint (suc i) _ _ _ (C .edges k) ∙ marked-first (officesOf a) _ _ i l);
+      second = λ i l. marks-held j b (C .accepted) vb (suc (officesOf a + i)) (suc i)
+          (λ k. joint (suc (officesOf a + i)) _ _ _ (C .nodes k) ∙ marked-second (officesOf a) _ _ i (marks-bounded _ _ k _ some (nodes-rise a va)))
+          (λ k. joint (suc (officesOf a + i)) _ _ _ (C .edges k) ∙ marked-second (officesOf a) _ _ i (marks-bounded _ _ k _ some (edges-rise a va)));
+    }
+  where
+    some : 0 < 2 ^ officesOf a
+    some = omega (arith, shift)
 
-  module _ (e : ℕ) (count : Counts (r .first) (edgePart a h) (r .second) (edgePart b g) e) where
-    edges-count : e + sharedEdges a b ≡ headerOf a .edges + headerOf b .edges
-    edges-count = omega (arith, count, shared-edges a h A b g B r P, edge-rows a h A, edge-rows b g B, same-edges a h A, same-edges b g B)
+    joint : (o m x y : ℕ) → m ≡ x + jointShift * y → marked m o ≡ marked (x + 2 ^ officesOf a * y) o
+    joint o m x y e = ap (λ (z : ℕ). marked z o) (e ∙ ap (λ (z : ℕ). x + z * y) shift)
 
-    pub edges-union : e ≡ unionEdges a b
+-- a sheet's rows are within the limits
+pub limits : (s : List ℕ) (h : Header) → Joinable s h → (h .nodes ≤ maxNodes) × (h .edges ≤ maxEdges)
+limits s h J = let f = J .accepted .nodes .header in let n = ap (λ (x : Header). x .nodes) (J .head) in let e = ap (λ (x : Header). x .edges) (J .head) in (omega arith, omega arith)
+
+module _ (a : List ℕ) (h : Header) (A : Joinable a h) (b : List ℕ) (g : Header) (B : Joinable b g) where
+  first-formed : WellFormed a (edgeTable a) h
+  first-formed = subst (λ (x : Header). WellFormed a (edgeTable a) x) (sym (A .head)) (A .accepted)
+
+  second-formed : WellFormed b (edgeTable b) g
+  second-formed = subst (λ (x : Header). WellFormed b (edgeTable b) x) (sym (B .head)) (B .accepted)
+
+  pub pair : Pair (Beside jointShift) (Beside jointShift) jointOffices a h b g
+  pair = beside-pair a h b g jointShift jointOffices first-formed second-formed (sym (ap (λ (o : ℕ). 2 ^ o) (A .one))) (omega (arith, A .one, B .one)) (omega arith)
+
+  module _ (m : Measure) (M : Measured (Beside jointShift) (Beside jointShift) a h b g m) where
+    -- the union's rows and the shared ones are as many as both sheets have
+    nodes-count : m .nodes + sharedNodes a b ≡ h .nodes + g .nodes
+    unfolding sharedNodes nodeRow
+    nodes-count =
+        let z : sharedNodes a b ≡ shared (h .nodes) (keys (rowAt Nodes a)) (g .nodes) (keys (rowAt Nodes b)) = λ i. shared (sym (A .head) i .nodes) (keys (rowAt Nodes a)) (sym (B .head) i .nodes) (keys (rowAt Nodes b)) in
+        omega (arith, M .node-rows .count, kept-both beside (h .nodes) (rowAt Nodes a) (part-table a h first-formed Nodes) (g .nodes) (rowAt Nodes b) (part-table b g second-formed Nodes) (λ x y l. omega arith) (λ y l. omega arith))
+
+    edges-count : m .edges + sharedEdges a b ≡ h .edges + g .edges
+    unfolding sharedEdges
+    edges-count =
+        let z : sharedEdges a b ≡ shared (h .edges) (keys (rowAt Edges a)) (g .edges) (keys (rowAt Edges b)) = λ i. shared (sym (A .head) i .edges) (keys (rowAt Edges a)) (sym (B .head) i .edges) (keys (rowAt Edges b)) in
+        omega (arith, M .edge-rows, kept-both beside (h .edges) (rowAt Edges a) (part-table a h first-formed Edges) (g .edges) (rowAt Edges b) (part-table b g second-formed Edges) (λ x y l. omega arith) (λ y l. omega arith))
+
+    same : (h .nodes ≡ headerOf a .nodes) × (g .nodes ≡ headerOf b .nodes) × (h .edges ≡ headerOf a .edges) × (g .edges ≡ headerOf b .edges)
+    same = (ap (λ (x : Header). x .nodes) (A .head), ap (λ (x : Header). x .nodes) (B .head), ap (λ (x : Header). x .edges) (A .head), ap (λ (x : Header). x .edges) (B .head))
+
+    pub nodes-union : m .nodes ≡ unionNodes a b
+    unfolding unionNodes
+    nodes-union = let s = same in omega (arith, nodes-count)
+
+    pub edges-union : m .edges ≡ unionEdges a b
     unfolding unionEdges
-    edges-union = omega (arith, edges-count)
+    edges-union = let s = same in omega (arith, edges-count)
 
-    pub edges-most : e ≤ h .edges + g .edges
-    edges-most = omega (arith, edges-count, same-edges a h A, same-edges b g B)
+    pub few : (m .nodes ≤ h .nodes + g .nodes) × (m .edges ≤ h .edges + g .edges)
+    few = (omega (arith, nodes-count), omega (arith, edges-count))
 
-    pub joined-laid : (out out′ : List ℕ) → 0 ≡ tooMuch (r .count) e (length out) → Laid (nodePart a h) (nodePart b g) (r .first) (edgePart a h) (r .second) (edgePart b g) (r .count) e out out′
-        → (x : Joined) → x ≡ record { number = 0; sheet = 0; row = 0; words = sheetWords (r .count) e; nodes = r .count; edges = e; sharednodes = h .nodes + g .nodes - r .count; sharededges = h .edges + g .edges - e }
+    pub joined-laid : (out out′ : List ℕ) → 0 ≡ tooMuch (m .nodes) (m .edges) (length out) → Laid (Beside jointShift) (Beside jointShift) jointOffices a h b g m out out′
+        → (x : Joined) → x ≡ record { number = 0; sheet = 0; row = 0; words = sheetWords (m .nodes) (m .edges); nodes = m .nodes; edges = m .edges; sharednodes = h .nodes + g .nodes - m .nodes; sharededges = h .edges + g .edges - m .edges }
         → Joins (unionFault a b (length out)) a b out x out′
     joined-laid out out′ z L x q =
-        let wn = L .nodes in
-        let we = L .edges in
-        let N = L .nodes-drawn in
-        let E = L .edges-drawn in
-        let l = within-limits (r .count) e (length out) z in
-        let j = joint (r .count) e wn we (N .long) (E .long) in
-        let long : length j ≡ sheetWords (r .count) e = joint-long (r .count) e wn we (N .long) (E .long) in
-        let jn : headerOf j .nodes ≡ r .count = joint-nodes (r .count) e wn we (N .long) (E .long) in
-        let je : headerOf j .edges ≡ e = joint-edges (r .count) e wn we (N .long) (E .long) in
-        let sn : h .nodes + g .nodes - r .count ≡ sharedNodes a b = omega (arith, nodes-count, same-nodes a h A, same-nodes b g B) in
-        let se : h .edges + g .edges - e ≡ sharedEdges a b = omega (arith, edges-count, same-edges a h A, same-edges b g B) in
+        let j = L .sheet in
+        let long = L .long in
+        let jn = L .rows .0 in
+        let je = L .rows .1 in
+        let s = same in
+        let l = within-limits (m .nodes) (m .edges) (length out) z in
+        let sn : h .nodes + g .nodes - m .nodes ≡ sharedNodes a b = omega (arith, nodes-count) in
+        let se : h .edges + g .edges - m .edges ≡ sharedEdges a b = omega (arith, edges-count) in
         let told : x ≡ tells a b j = q ∙ (λ i. record { number = 0; sheet = 0; row = 0; words = sym long i; nodes = sym jn i; edges = sym je i; sharednodes = sn i; sharededges = se i }) in
-        let holds : out′ ≡ j ++ drop (length j) out = L .holds ∙ ap (λ (y : ℕ). j ++ drop y out) (sym long) in
-        subst (λ (w : List ℕ). Joins (unionFault a b (length out)) a b out x w) (sym holds)
+        let oa : officesOf a ≡ 1 = ap (λ (y : Header). y .offices) (sym (A .head)) ∙ A .one in
+        let ob : officesOf b ≡ 1 = ap (λ (y : Header). y .offices) (sym (B .head)) ∙ B .one in
+        subst (λ (w : List ℕ). Joins (unionFault a b (length out)) a b out x w) (sym (L .holds))
         (subst (λ (y : Joined). Joins (unionFault a b (length out)) a b out y (j ++ drop (length j) out)) (sym told)
-        (joined j (union-passes a b (r .count) e (length out) z nodes-union edges-union) (laid-join a h A b g B r P e wn we N E (l .0) (l .1))
-        (ap (λ (y : ℕ). y + sharedNodes a b) jn ∙ nodes-count) (ap (λ (y : ℕ). y + sharedEdges a b) je ∙ edges-count) (omega (arith, long, l .2))))
+        (joined j (union-passes a b (m .nodes) (m .edges) (length out) z nodes-union edges-union)
+        (join-is a b j (A .accepted) (B .accepted) (sym (ap (λ (o : ℕ). 2 ^ o) oa)) (omega arith) (L .is))
+        (omega (arith, nodes-count)) (omega (arith, edges-count)) (omega (arith, l .2))))

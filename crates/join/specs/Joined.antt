@@ -5,6 +5,7 @@ use mathlib.Core.Path.{_≡_}
 use mathlib.Core.Bool.{not}
 use mathlib.Core.List.{List, _++_}
 use lib.ListN.{length, drop}
+use Rattle.tables.specs.Count.{shared}
 use Rattle.tables.specs.Key.{Key}
 use Rattle.sheet.specs.declared.Refusal.{Refusal}
 use Rattle.sheet.specs.Limits.{maxNodes, maxEdges, sheetWords}
@@ -13,7 +14,6 @@ use Rattle.sheet.specs.Rows.{headerOf, edgeTable, nodeKeyAt}
 use Rattle.sheet.specs.Named.{edgeRow}
 use Rattle.sheet.specs.Verdict.{verdict}
 use Rattle.meaning.specs.Join.{officesOf, IsJoin}
-use Rattle.merge.specs.Merged.{shared}
 use Rattle.join.specs.declared.Joined.{Joined}
 
 -- row j of the edge table by its kind and the identities of both its ends

@@ -14,8 +14,7 @@ use Rattle.sheet.proofs.Refusing.{then-none}
 use Rattle.files.specs.Bytes.{wordsOf, bytesOf, bytesFault, bytesVerdict}
 use Rattle.meaning.specs.Ships.{sheetA, sheetB, sheetJ}
 use Rattle.meaning.proofs.Ships.{sister-ships}
-use Rattle.tables.specs.Count.{howMany, someRow, has}
-use Rattle.merge.specs.Merged.{shared}
+use Rattle.tables.specs.Count.{howMany, someRow, has, shared}
 use Rattle.join.specs.declared.Joined.{Joined}
 use Rattle.join.specs.Joined.{sharedNodes, sharedEdges, unionNodes, unionEdges, notOne, tooMuch, sheetsFault, unionFault, joinFault, tells, joined}
 use Rattle.joining.specs.JoinedFiles.{filesFault, JoinsBytes, JoinsFiles}

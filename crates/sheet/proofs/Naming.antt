@@ -7,8 +7,9 @@ use mathlib.Core.List.{List, [], _∷_, _++_}
 use native.Mathlib.Omega.{arith}
 use Rattle.tables.specs.Key.{Key, identity, relation, belowKey}
 use Rattle.tables.specs.Marks.{marked, within}
-use Rattle.tables.specs.Table.{Rise}
-use Rattle.tables.specs.Office.{heldBy}
+use Rattle.tables.specs.Table.{marksAt, Rise}
+use Rattle.tables.specs.Office.{heldBy, Same}
+use Rattle.tables.proofs.Alike.{held-marks}
 use Rattle.tables.proofs.Keys.{Ahead, first, rest, ahead, behind, below-first, below-second, rises}
 use Rattle.tables.proofs.Marks.{within-marked}
 use Rattle.tables.proofs.Tables.{rows-rise, MarkedRow, held-row, row-held}
@@ -22,7 +23,7 @@ abbrev relationAt : List ℕ → Edge → Key
 relationAt s e = relation (e .kind) (nodeKeyAt s (e .from)) (nodeKeyAt s (e .to))
 
 -- edge rows that rise by row numbers rise by what they name, since node rows rise
-lower-named : (s : List ℕ) (n : ℕ) → Rising (nodeKeyAt s) n → (e d : Edge) → e .from < n → d .from < n → e .to < n → d .to < n
+pub lower-named : (s : List ℕ) (n : ℕ) → Rising (nodeKeyAt s) n → (e d : Edge) → e .from < n → d .from < n → e .to < n → d .to < n
     → belowKey (edgeKey e) (edgeKey d) ≡ true → belowKey (relationAt s e) (relationAt s d) ≡ true
 lower-named s n up e d ef df et dt l = behind _ _ _ _ (kinds (ahead _ _ _ _ l))
   where
@@ -40,11 +41,11 @@ lower-named s n up e d ef df et dt l = behind _ _ _ _ (kinds (ahead _ _ _ _ l))
     kinds (rest q m) = rest q (froms (ahead _ _ _ _ m))
 
 module _ (s : List ℕ) (w : Accepted s) where
-  nodes-up : Rising (λ i. nodeRow s i .key) (headerOf s .nodes)
+  pub nodes-up : Rising (λ i. nodeRow s i .key) (headerOf s .nodes)
   unfolding nodeRow
   nodes-up = w .nodes .rise
 
-  edges-up : Rising (λ j. edgeRow s (edgeTable s) j .key) (headerOf s .edges)
+  pub edges-up : Rising (λ j. edgeRow s (edgeTable s) j .key) (headerOf s .edges)
   unfolding edgeRow
   edges-up j h =
       let a = w .edges .shaped j (omega arith) in
@@ -112,3 +113,13 @@ module _ (s : List ℕ) (w : Accepted s) where
         ap (λ (k : Key). seenAt s office .node k) (sym to) ∙ end-seen office (r .row) _ (p .to) (f .in-to) (r .bears),
         cc (r .names, f .ends),
       )
+
+-- two offices hold the same where the marks at every key are theirs alike
+pub marks-held : (s t : List ℕ) → Accepted s → Accepted t → (o p : ℕ) → ((k : Key) → marked (marksAt (tablesOf s .nodes) k) o ≡ marked (marksAt (tablesOf t .nodes) k) p)
+    → ((k : Key) → marked (marksAt (tablesOf s .edges) k) o ≡ marked (marksAt (tablesOf t .edges) k) p) → Same (heldAt s o) (heldAt t p)
+unfolding heldBy
+marks-held s t v w o p nodes edges =
+    record {
+      nodes = λ k. held-marks o _ [] k _ (nodes-rise s v) ∙ nodes k ∙ sym (held-marks p _ [] k _ (nodes-rise t w));
+      edges = λ k. held-marks o _ [] k _ (edges-rise s v) ∙ edges k ∙ sym (held-marks p _ [] k _ (edges-rise t w));
+    }

@@ -2,16 +2,16 @@
 -- Assumes nothing.
 use Prim.Native.Nat.{ℕ, zero, suc, _+_, _<_}
 use mathlib.Core.Path.{_≡_, refl, sym, ap, _∙_}
-use mathlib.Core.Bool.{Bool, true, false, _&&_, _||_, false≢true}
+use mathlib.Core.Bool.{Bool, true, false, cond, _&&_, _||_, false≢true}
 use native.Mathlib.Omega.{arith}
 use native.Mathlib.Decide.{decLt}
 use native.Mathlib.Nat.{add-zero, zero-add}
+use native.Mathlib.Numerals.{add-one}
 use Rattle.tables.specs.Key.{Key, sameKey, belowKey}
 use Rattle.tables.specs.Marks.{marked}
 use Rattle.tables.specs.Table.{Row, rowsOf, marksAt, Rise}
 use Rattle.tables.specs.Office.{someOf, holds}
 use Rattle.tables.proofs.Keys.{same-refl, same-eq, eq-same, ne-same}
-use Rattle.tables.proofs.Marks.{marked-some}
 
 -- row i, below n, has the key k
 pub record RowAt (n : ℕ) (f : ℕ → Row) (k : Key) : Type 0 where
@@ -67,6 +67,45 @@ marks-low top n f own some low k = go (decLt 0 (marksAt (rowsOf n f) k))
         omega (arith, marks-named n f own k (at .row) (at .inside) (at .names), low (at .row) (at .inside))
     go (no h) = omega arith
 
+-- the same rows are the same table ..
+pub rows-alike : (k : ℕ) (h h′ : ℕ → Row) → ((u : ℕ) → u < k → h′ u ≡ h u) → rowsOf k h′ ≡ rowsOf k h
+unfolding rowsOf
+rows-alike zero h h′ same = refl
+rows-alike (suc k) h h′ same = rw (same 0 (omega arith), rows-alike k (λ u. h (suc u)) (λ u. h′ (suc u)) (λ u l. same (suc u) (omega arith))) refl
+
+-- .. and tables that are the same have as many rows, and the same ones
+pub rows-same : (n m : ℕ) (f g : ℕ → Row) → rowsOf n f ≡ rowsOf m g → (n ≡ m) × ((i : ℕ) → i < n → f i ≡ g i)
+unfolding rowsOf
+rows-same zero zero f g e = (refl, λ i h. absurd (omega arith))
+rows-same zero (suc m) f g e = absurd (let z : _≡_ {A = ℕ} 0 1 = cc in omega arith)
+rows-same (suc n) zero f g e = absurd (let z : _≡_ {A = ℕ} 0 1 = cc in omega arith)
+rows-same (suc n) (suc m) f g e =
+    let head : f 0 ≡ g 0 = cc in
+    let tail : rowsOf n (λ i. f (suc i)) ≡ rowsOf m (λ i. g (suc i)) = cc in
+    let more = rows-same n m (λ i. f (suc i)) (λ i. g (suc i)) tail in
+    (ap suc (more .0), go head (more .1))
+  where
+    go : f 0 ≡ g 0 → ((i : ℕ) → i < n → f (suc i) ≡ g (suc i)) → (i : ℕ) → i < suc n → f i ≡ g i
+    go head more zero h = head
+    go head more (suc i) h = more i (omega arith)
+
+-- the marks at a key, one row more at the end
+marks-suc : (n : ℕ) (f : ℕ → Row) (key : Key) → marksAt (rowsOf (suc n) f) key ≡ marksAt (rowsOf n f) key + cond (sameKey (f n .key) key) (f n .marks) 0
+unfolding rowsOf marksAt
+marks-suc zero f key = omega arith
+marks-suc (suc n) f key = ap (λ (x : ℕ). cond (sameKey (f 0 .key) key) (f 0 .marks) 0 + x) (marks-suc n (λ i. f (suc i)) key) ∙ omega arith
+
+module _ (n : ℕ) (f : ℕ → Row) (key : Key) where
+  marks-next : marksAt (rowsOf (n + 1) f) key ≡ marksAt (rowsOf n f) key + cond (sameKey (f n .key) key) (f n .marks) 0
+  marks-next = rw (add-one n) (marks-suc n f key)
+
+  -- that has the key, and that has another
+  pub marks-more : f n .key ≡ key → marksAt (rowsOf (n + 1) f) key ≡ marksAt (rowsOf n f) key + f n .marks
+  marks-more e = marks-next ∙ rw (eq-same (f n .key) key e) refl
+
+  pub marks-still : (f n .key ≡ key → ⊥) → marksAt (rowsOf (n + 1) f) key ≡ marksAt (rowsOf n f) key
+  marks-still e = marks-next ∙ rw (ne-same (f n .key) key e) (add-zero _)
+
 -- rows that rise, with marks of offices below the top, are a rising table
 pub rows-rise : (top : ℕ) (low : Key) (n : ℕ) (f : ℕ → Row) → (0 < n → belowKey low (f 0 .key) ≡ true)
     → ((i : ℕ) → i + 1 < n → belowKey (f i .key) (f (i + 1) .key) ≡ true) → ((i : ℕ) → i < n → (0 < f i .marks) × (f i .marks < top)) → Rise top low (rowsOf n f)
@@ -94,13 +133,6 @@ pub record Counted (n : ℕ) (key : ℕ → Key) (counts : ℕ → Bool) (k : Ke
 -- row i, below n, has the key k and bears the office's mark
 abbrev pub MarkedRow : ℕ → (ℕ → Row) → ℕ → Key → Type 0
 MarkedRow n f office k = Counted n (λ i. f i .key) (λ i. marked (f i .marks) office) k
-
--- of rows that have keys of their own, the one whose key has marks bears them
-pub marks-counted : (n : ℕ) (f : ℕ → Row) → ((i j : ℕ) → i < n → j < n → f i .key ≡ f j .key → i ≡ j) → (office : ℕ) (k : Key) → marked (marksAt (rowsOf n f) k) office ≡ true → MarkedRow n f office k
-marks-counted n f own office k e =
-    let at = row-of n f k (marked-some (marksAt (rowsOf n f) k) office e) in
-    let here = marks-named n f own k (at .row) (at .inside) (at .names) in
-    record { row = at .row; inside = at .inside; names = at .names; bears = ap (λ (m : ℕ). marked m office) (sym here) ∙ e }
 
 -- some row of a table is one of its rows by number ..
 pub some-of : (p : Row → Bool) (n : ℕ) (f : ℕ → Row) → someOf p (rowsOf n f) ≡ true → (i : ℕ) × (i < n) × (p (f i) ≡ true)

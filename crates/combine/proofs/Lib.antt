@@ -1,0 +1,9 @@
+pub mod Combining
+pub mod Counting
+pub mod Reading
+pub mod Alike
+pub mod Walking
+pub mod Laying
+pub mod Whole
+pub mod Ruling
+pub mod Single

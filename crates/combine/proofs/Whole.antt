@@ -1,0 +1,159 @@
+-- The whole sheet: what was measured is what is written, and header, node rows and edge rows stand one behind the other, the rows through lent tails of the output.
+-- Assumes nothing.
+use Prim.Native.Nat.{ℕ, _+_, _-_, _*_, _<_, _≤_}
+use mathlib.Core.Path.{_≡_, refl, sym, ap, subst, _∙_}
+use mathlib.Core.List.{List, [], _++_, append-assoc, append-nil}
+use native.Mathlib.Omega.{arith}
+use lib.ListN.{length, getD, take, drop, replicate, length-replicate, length-append, length-drop, drop-of-length-le}
+use lib.Seq.{sets, length-sets, sets-eq, take-at, drop-at, drop-drop, length-take-le}
+use Rattle.tables.specs.Table.{Row}
+use Rattle.sheet.specs.declared.Header.{Header}
+use Rattle.sheet.specs.Limits.{maxNodes, maxEdges, sheetWords, edgesFrom}
+use Rattle.sheet.specs.Rows.{headerOf}
+use Rattle.sheet.specs.Found.{PlaceIs}
+use Rattle.sheet.specs.Accepted.{Accepted}
+use Rattle.sheet.specs.Named.{nodeRow}
+use Rattle.sheet.proofs.Refusing.{from-on}
+use Rattle.sheet.specs.Stored.{headerSix}
+use Rattle.combine.specs.declared.Part.{Part}
+use Rattle.combine.specs.declared.Part.the-variants.{Nodes, Edges}
+use Rattle.combine.specs.declared.Rule.{Rule}
+use Rattle.combine.specs.declared.Measure.{Measure}
+use Rattle.combine.specs.Combined.{keys, Combined, Places}
+use Rattle.combine.specs.Rules.{makes}
+use Rattle.combine.specs.Parts.{Inputs, through, Written, partRows}
+use Rattle.combine.specs.Sheets.{IsCombined, Pair, Measured, Laid}
+use Rattle.combine.proofs.Reading.{entry-inside}
+use Rattle.combine.proofs.Walking.{writes}
+use Rattle.combine.proofs.Laying.{sheet-long, sheet-header, combined}
+use Rattle.combine.proofs.Alike.{part-one, place-alike}
+
+-- ---- lent tails
+
+-- the tail of l, where its front p ends, is lent, and ws is written to its front
+lent-front : (l p q ws t : List ℕ) (e : ℕ) → l ≡ p ++ q → length p ≡ e → t ≡ ws ++ drop (length ws) (take (length l - e) (drop e l))
+    → take e l ++ (t ++ drop (length l - e) (drop e l)) ≡ (p ++ ws) ++ drop (length ws) q
+lent-front l p q ws t e at long holds =
+    let a : drop e l ≡ q = ap (drop e) at ∙ drop-at p q e long in
+    let b : take e l ≡ p = ap (take e) at ∙ take-at p q e long in
+    let c : take (length l - e) (drop e l) ≡ q = from-on l e ∙ a in
+    let d : drop (length l - e) (drop e l) ≡ [] = drop-of-length-le (drop e l) {i = length l - e} (omega (arith, length-drop e l)) in
+    let f : t ≡ ws ++ drop (length ws) q = holds ∙ ap (λ (x : List ℕ). ws ++ drop (length ws) x) c in
+    (λ i. b i ++ (f i ++ d i)) ∙ ap (λ (x : List ℕ). p ++ x) (append-nil (ws ++ drop (length ws) q)) ∙ sym (append-assoc p ws (drop (length ws) q))
+
+-- a tail that is lent after another was given back has the room that the output has
+pub second-room : (l t : List ℕ) (d k q : ℕ) → d ≤ length l → length t ≡ length (take (length l - d) (drop d l)) → k + q ≤ length l
+    → q ≤ length (take (length (take d l ++ (t ++ drop (length l - d) (drop d l))) - k) (drop k (take d l ++ (t ++ drop (length l - d) (drop d l)))))
+second-room l t d k q g e h =
+    let a = ap length (from-on l d) in
+    let b = length-drop d l in
+    let c = length-take-le d l g in
+    let f = length-drop (length l - d) (drop d l) in
+    let m = length-append (take d l) (t ++ drop (length l - d) (drop d l)) in
+    let n = length-append t (drop (length l - d) (drop d l)) in
+    let r = ap length (from-on (take d l ++ (t ++ drop (length l - d) (drop d l))) k) in
+    let s = length-drop k (take d l ++ (t ++ drop (length l - d) (drop d l))) in
+    omega arith
+
+pub first-room : (l : List ℕ) (n e : ℕ) → sheetWords n e ≤ length l → 4 * n ≤ length (take (length l - 6) (drop 6 l))
+first-room l n e h = omega (arith, ap length (from-on l 6), length-drop 6 l)
+
+-- what is written keeps the output's length
+written-long : (rule : Rule) (part : Part) (a : List ℕ) (h : Header) (b : List ℕ) (g : Header) (ma mb : List ℕ) (k : ℕ) (out out′ : List ℕ) → Written rule part a h b g ma mb k out out′ → 4 * k ≤ length out → length out′ ≡ length out
+written-long rule part a h b g ma mb k out out′ W l = ap length (W .holds) ∙ length-append (W .words) (drop (length (W .words)) out) ∙ omega (arith, length-drop (length (W .words)) out, W .spells .long)
+
+-- ---- the sheet
+
+module _ (nodes edges : Rule) (c : ℕ) (a : List ℕ) (h : Header) (b : List ℕ) (g : Header) (Q : Pair nodes edges c a h b g) where
+  pub node-inputs : Inputs a h b g nodes
+  node-inputs = record { first = Q .first; second = Q .second; safe = Q .safe-nodes; none = Q .rules .nodes .none }
+
+  pub edge-inputs : Inputs a h b g edges
+  edge-inputs = record { first = Q .first; second = Q .second; safe = Q .safe-edges; none = Q .rules .edges .none }
+
+module _ (nodes edges : Rule) (c : ℕ) (a b : List ℕ) (Q : Pair nodes edges c a (headerOf a) b (headerOf b)) (m : Measure) (M : Measured nodes edges a (headerOf a) b (headerOf b) m)
+    (few-nodes : m .nodes ≤ maxNodes) (few-edges : m .edges ≤ maxEdges) where
+  -- the places that were noted are places in what is written
+  places : (s : List ℕ) (map : List ℕ) → Accepted s → length map ≡ maxNodes → (row : ℕ → Row) → Combined (makes nodes) (headerOf a .nodes) (nodeRow a) (headerOf b .nodes) (nodeRow b) (m .nodes) row
+      → (headerOf s .nodes ≤ length map → Places (nodeRow s) (headerOf s .nodes) (λ x. getD map x 0) (m .nodes) (M .node-rows .row)) → Places (nodeRow s) (headerOf s .nodes) (through map) (m .nodes) row
+  places s map v long row C L x l =
+      let fits : headerOf s .nodes ≤ length map = omega (arith, v .nodes .header .nodes) in
+      subst (PlaceIs (keys row) (m .nodes) (nodeRow s x .key)) (entry-inside map x (omega arith))
+      (place-alike (M .node-rows .row) row (m .nodes) _ _ (same .1) (L fits x l))
+    where
+      same : (m .nodes ≡ m .nodes) × ((u : ℕ) → u < m .nodes → M .node-rows .row u ≡ row u)
+      same = part-one nodes Nodes a (headerOf a) b (headerOf b) (node-inputs nodes edges c a (headerOf a) b (headerOf b) Q) c (Q .rules .nodes) (m .nodes) (m .nodes) (M .node-rows .row) row (M .node-rows .combined) C
+
+  module _ (out l : List ℕ) (room : sheetWords (m .nodes) (m .edges) ≤ length out) (first : l ≡ sets out 0 (headerSix c (m .nodes) (m .edges))) where
+    abbrev n : ℕ
+    n = m .nodes
+
+    abbrev e : ℕ
+    e = m .edges
+
+    six : length (headerSix c n e) ≡ 6
+    unfolding headerSix
+    six = refl
+
+    headed : l ≡ headerSix c n e ++ drop 6 out
+    unfolding headerSix
+    headed = first ∙ sets-eq (headerSix c n e) out 0 (omega arith)
+
+    laid : (t : List ℕ) → Written nodes Nodes a (headerOf a) b (headerOf b) [] [] n (take (length l - 6) (drop 6 l)) t → (k : List ℕ) → k ≡ take 6 l ++ (t ++ drop (length l - 6) (drop 6 l))
+        → (u : List ℕ) → Written edges Edges a (headerOf a) b (headerOf b) (m .first) (m .second) e (take (length k - edgesFrom n) (drop (edgesFrom n) k)) u
+        → Laid nodes edges c a (headerOf a) b (headerOf b) m out (take (edgesFrom n) k ++ (u ++ drop (length k - edgesFrom n) (drop (edgesFrom n) k)))
+    laid t WN k second u WE =
+        let wn = WN .words in
+        let we = WE .words in
+        let s = second ∙ lent-front l (headerSix c n e) (drop 6 out) wn t 6 headed six (WN .holds) in
+        let long : length (headerSix c n e ++ wn) ≡ edgesFrom n = length-append (headerSix c n e) wn ∙ omega (arith, six, WN .spells .long) in
+        let z : 6 + length wn + length we ≡ sheetWords n e = omega (arith, WN .spells .long, WE .spells .long) in
+        let hd = sheet-header c n e wn we (WN .spells .long) (WE .spells .long) in
+        let all : length (headerSix c n e ++ wn ++ we) ≡ sheetWords n e = sheet-long c n e wn we (WN .spells .long) (WE .spells .long) in
+        record {
+          sheet = headerSix c n e ++ wn ++ we;
+          is = combined (makes nodes) (makes edges) c a b (Q .first) (Q .second) (Q .rules) (Q .low) (Q .high) n e few-nodes few-edges wn we (m .first) (m .second) (WN .row) (WE .row) (WN .combined) (WE .combined) (WN .spells) (WE .spells)
+              (places a (m .first) (Q .first) (M .first-long) (WN .row) (WN .combined) (M .node-rows .first)) (places b (m .second) (Q .second) (M .second-long) (WN .row) (WN .combined) (M .node-rows .second));
+          long = all;
+          rows = (ap (λ (x : Header). x .nodes) hd, ap (λ (x : Header). x .edges) hd);
+          holds = lent-front k (headerSix c n e ++ wn) (drop (length wn) (drop 6 out)) we u (edgesFrom n) s long (WE .holds)
+              ∙ ap (λ (x : List ℕ). headerSix c n e ++ wn ++ we ++ x) (ap (drop (length we)) (drop-drop (length wn) 6 out) ∙ drop-drop (length we) (6 + length wn) out ∙ ap (λ (x : ℕ). drop x out) (z ∙ sym all));
+        }
+
+-- .. under the headers that the sheets have
+abbrev LaidBy : Rule → Rule → ℕ → List ℕ → Header → List ℕ → Header → Measure → Type 0
+LaidBy nodes edges c a h b g m =
+    Pair nodes edges c a h b g → Measured nodes edges a h b g m → m .nodes ≤ maxNodes → m .edges ≤ maxEdges → (out l : List ℕ) → sheetWords (m .nodes) (m .edges) ≤ length out → l ≡ sets out 0 (headerSix c (m .nodes) (m .edges))
+    → (t : List ℕ) → Written nodes Nodes a h b g [] [] (partRows nodes Nodes a h b g) (take (length l - 6) (drop 6 l)) t → (k : List ℕ) → k ≡ take 6 l ++ (t ++ drop (length l - 6) (drop 6 l))
+    → (u : List ℕ) → Written edges Edges a h b g (m .first) (m .second) (partRows edges Edges a h b g) (take (length k - edgesFrom (m .nodes)) (drop (edgesFrom (m .nodes)) k)) u
+    → Laid nodes edges c a h b g m out (take (edgesFrom (m .nodes)) k ++ (u ++ drop (length k - edgesFrom (m .nodes)) (drop (edgesFrom (m .nodes)) k)))
+
+pub laid-by : (nodes edges : Rule) (c : ℕ) (a : List ℕ) (h : Header) (b : List ℕ) (g : Header) (m : Measure) → LaidBy nodes edges c a h b g m
+laid-by nodes edges c a h b g m Q =
+    subst (λ (x : Header). LaidBy nodes edges c a x b g m) (sym (Q .first .head))
+    (subst (λ (y : Header). LaidBy nodes edges c a (headerOf a) b y m) (sym (Q .second .head)) own) Q
+  where
+    own : LaidBy nodes edges c a (headerOf a) b (headerOf b) m
+    own Q M x y out l room first t WN k second u WE =
+        laid nodes edges c a b Q m M x y out l room first t
+        (subst (λ (z : ℕ). Written nodes Nodes a (headerOf a) b (headerOf b) [] [] z (take (length l - 6) (drop 6 l)) t) (sym (M .node-rows .count)) WN) k second u
+        (subst (λ (z : ℕ). Written edges Edges a (headerOf a) b (headerOf b) (m .first) (m .second) z (take (length k - edgesFrom (m .nodes)) (drop (edgesFrom (m .nodes)) k)) u) (sym (M .edge-rows)) WE)
+
+-- there is such a sheet, whatever the output
+pub record There (nodes edges : Rule) (c : ℕ) (a : List ℕ) (h : Header) (b : List ℕ) (g : Header) (m : Measure) : Type 0 where
+  pub sheet : List ℕ
+  pub is : IsCombined (makes nodes) (makes edges) c a b sheet
+  pub long : length sheet ≡ sheetWords (m .nodes) (m .edges)
+
+pub there : (nodes edges : Rule) (c : ℕ) (a : List ℕ) (h : Header) (b : List ℕ) (g : Header) (m : Measure) → Pair nodes edges c a h b g → Measured nodes edges a h b g m → m .nodes ≤ maxNodes → m .edges ≤ maxEdges → There nodes edges c a h b g m
+there nodes edges c a h b g m Q M x y =
+    let out = replicate {A = ℕ} (sheetWords (m .nodes) (m .edges)) 0 in
+    let room : sheetWords (m .nodes) (m .edges) ≤ length out = omega (arith, length-replicate {A = ℕ} (sheetWords (m .nodes) (m .edges)) 0) in
+    let l = sets out 0 (headerSix c (m .nodes) (m .edges)) in
+    let long : length l ≡ length out = length-sets out 0 (headerSix c (m .nodes) (m .edges)) in
+    let N = writes nodes Nodes a h b g (node-inputs nodes edges c a h b g Q) [] [] (take (length l - 6) (drop 6 l)) (omega (arith, M .node-rows .count, first-room l (m .nodes) (m .edges) (omega arith))) in
+    let k = take 6 l ++ (N .after ++ drop (length l - 6) (drop 6 l)) in
+    let E = writes edges Edges a h b g (edge-inputs nodes edges c a h b g Q) (m .first) (m .second) (take (length k - edgesFrom (m .nodes)) (drop (edgesFrom (m .nodes)) k))
+    (omega (arith, M .edge-rows, second-room l (N .after) 6 (edgesFrom (m .nodes)) (4 * m .edges) (omega arith) (written-long _ _ _ _ _ _ _ _ _ _ _ (N .is) (omega (arith, M .node-rows .count, first-room l (m .nodes) (m .edges) (omega arith)))) (omega arith))) in
+    let L = laid-by nodes edges c a h b g m Q M x y out l room refl (N .after) (N .is) k refl (E .after) (E .is) in
+    record { sheet = L .sheet; is = L .is; long = L .long }

@@ -1,0 +1,53 @@
+-- `combine::below_at` meets its contract, part by part.
+-- Assumes nothing.
+use mathlib.Core.Path.{_≡_, sym, ap₂, subst, _∙_}
+use Rattle.tables.specs.Key.{belowKey}
+use Rattle.sheet.specs.declared.Node.{Node}
+use Rattle.sheet.specs.Rows.{nodeKey}
+use Rattle.combine.specs.declared.Part.{Part}
+use Rattle.combine.specs.Parts.{rowAt}
+use Rattle.combine.proofs.Reading.{part-room, part-edges, nodes-below}
+use borrow.Author.Needs.{needs}
+use Rattle.combine.proofs.below_at.Statement.{statement}
+use Rattle.combine.proofs.below_at.Tie as tie
+
+enum-told : tie.Need-enum-told
+enum-told c = search needs
+
+node-at-requires : tie.Need-node-at-requires
+node-at-requires c κs = let s = c .before .before .before .before in part-room _ _ (s .pre .0) _ _ (c .enum-told .given .1) (s .pre .1)
+
+node-at-requires-2 : tie.Need-node-at-requires-2
+node-at-requires-2 c κs = let s = c .before .before .before .before .before in
+    part-room _ _ (s .pre .2) _ _ (c .before .enum-told .given .1) (s .pre .3)
+
+below-node-requires : tie.Need-below-node-requires
+below-node-requires c κs = search needs
+
+enum-told-2 : tie.Need-enum-told-2
+enum-told-2 c = search needs
+
+below-named-requires : tie.Need-below-named-requires
+below-named-requires c κs = let s = c .before .before .before .before in
+    let p = c .enum-told2 .given .1 in
+    (s .pre .0, part-edges _ _ (s .pre .0) _ _ p (s .pre .1), s .pre .2, part-edges _ _ (s .pre .2) _ _ p (s .pre .3))
+
+returns : tie.Need-returns
+returns c = nodes-below _ _ _ _ _ _ (c .before .before .before .enum-told .given .1) (c .below-node .ensures ∙ ap₂ (λ (x y : Node). belowKey (nodeKey x) (nodeKey y)) (c .before .before .node-at .ensures) (c .before .node-at2 .ensures))
+
+returns-2 : tie.Need-returns-2
+returns-2 c = let s = c .before .before .before .before .before in
+    subst (λ (p : Part). c .below-named .result ≡ belowKey (rowAt p (s .args .first .now) (s .args .i) .key) (rowAt p (s .args .second .now) (s .args .j) .key)) (sym (c .before .enum-told2 .given .1)) (c .below-named .ensures)
+
+pub below-at-spec : {M : Type 1} → statement M
+below-at-spec =
+    tie.close
+    (tie.spec
+    enum-told
+    node-at-requires
+    node-at-requires-2
+    below-node-requires
+    enum-told-2
+    below-named-requires
+    returns
+    returns-2)
