@@ -36,7 +36,7 @@ module _ (s : List ℕ) (acc : Accepted s) (k : ℕ) (side : Side) (d : ℕ) (so
   g = seenAt s (suc k)
 
   abbrev Arcs : ℕ → ℕ → Type 0
-  Arcs = Steps s (edgeTable s) (walkFor k side d) false (headerOf s .edges)
+  Arcs = Steps s (edgeTable s) (walkFor k side d) (headerOf s .edges)
 
   abbrev Goal : ℕ → Type 0
   Goal x = x ≡ rf

@@ -24,7 +24,7 @@ use Rattle.meaning.specs.Paths.{Side, rightKind, person, deed, folio, right, Ha
 use Rattle.meaning.specs.Answers.{Says}
 use Rattle.meaning.proofs.Axioms.{a1-a2}
 use Rattle.walk.specs.declared.Walk.{Walk}
-use Rattle.walk.specs.Arcs.{Steps}
+use Rattle.walk.specs.Arcs.{Steps, walkOf, reversed}
 use Rattle.walk.proofs.Walking.{turned-layers}
 use Rattle.question.specs.declared.Question.{Question}
 use Rattle.question.proofs.Known.{found-class}
@@ -35,16 +35,16 @@ use Rattle.ask.proofs.Bridge.{trail-path, path-trail}
 use Rattle.tables.proofs.Counts.{some-at}
 
 module _ (s t : List ℕ) (h : Header) (f : WellFormed s t h) (k : ℕ) (side : Side) (q : Question) (rp rf : ℕ) (pl : Placed s q rp rf) (dist : List ℕ)
-    (y : Layers (Steps s t (walkFor k side (q .deed)) true (h .edges)) (λ x. x ≡ rf) dist) where
+    (y : Layers (Steps s t (reversed (walkFor k side (q .deed))) (h .edges)) (λ x. x ≡ rf) dist) where
   acc : Accepted s
   acc = words-of s t h f
 
   -- the numbers, over the words alone, as steps back
-  pub back-layers : Layers (λ a b. Steps s (edgeTable s) (walkFor k side (q .deed)) false (headerOf s .edges) b a) (λ x. x ≡ rf) dist
+  pub back-layers : Layers (λ a b. Steps s (edgeTable s) (walkFor k side (q .deed)) (headerOf s .edges) b a) (λ x. x ≡ rf) dist
   back-layers =
       turned-layers s (edgeTable s) (walkFor k side (q .deed)) (headerOf s .edges) (λ x. x ≡ rf) dist
-      (subst (λ (x : Header). Layers (Steps s (edgeTable s) (walkFor k side (q .deed)) true (x .edges)) (λ x. x ≡ rf) dist) (f .head)
-      (subst (λ (x : List ℕ). Layers (Steps s x (walkFor k side (q .deed)) true (h .edges)) (λ x. x ≡ rf) dist) (f .table) y))
+      (subst (λ (x : Header). Layers (Steps s (edgeTable s) (reversed (walkFor k side (q .deed))) (x .edges)) (λ x. x ≡ rf) dist) (f .head)
+      (subst (λ (x : List ℕ). Layers (Steps s x (reversed (walkFor k side (q .deed))) (h .edges)) (λ x. x ≡ rf) dist) (f .table) y))
 
   pub reached-path : (getD dist rp 0 ≡ 0 → ⊥) → HasPath (seenAt s (suc k)) side (q .person) (q .deed) (q .folio)
   reached-path n = ⊎-elim (λ z. absurd (n z)) some (zero-or (getD dist rp 0))
@@ -103,5 +103,5 @@ placed-by s acc any office q rp rd rf lp ld lf ep ed ef =
     record { person-in = lp; person-is = cc; folio-in = lf; folio-is = cc; deed-some = λ z. acc .nodes .fit rd ld .number (b .1 ∙ z) }
 
 -- the walk that the code makes
-pub walk-is : (w : Walk) (k mark kind deed : ℕ) → w ≡ record { mark = mark; right = rightKind (sideOf kind); deed = deed } → mark ≡ 2 ^ k → w ≡ walkFor k (sideOf kind) deed
-walk-is w k mark kind deed e m = e ∙ ap (λ (x : ℕ). record { mark = x; right = rightKind (sideOf kind); deed = deed }) m
+pub walk-is : (w : Walk) (k mark kind deed : ℕ) → w ≡ walkOf mark (rightKind (sideOf kind)) deed → mark ≡ 2 ^ k → w ≡ walkFor k (sideOf kind) deed
+walk-is w k mark kind deed e m = e ∙ ap (λ (x : ℕ). walkOf x (rightKind (sideOf kind)) deed) m

@@ -19,11 +19,11 @@ use Rattle.sheet.proofs.Naming.{edge-seen, seen-edge}
 use Rattle.paths.proofs.Tests.{and-left, and-right, both, or-left, or-right}
 use Rattle.meaning.specs.Paths.{Side, grant, ban, rightKind, person, category, deed, folio, member, contained, right, applies, step}
 use Rattle.walk.specs.declared.Walk.{Walk}
-use Rattle.walk.specs.Arcs.{takes, turned, tailOf, headOf, arcAt, Steps}
+use Rattle.walk.specs.Arcs.{takes, turned, tailOf, headOf, arcAt, Steps, walkOf}
 
 -- the walk of a side's paths for a deed at office k + 1
 abbrev pub walkFor : ℕ → Side → ℕ → Walk
-walkFor k side d = record { mark = 2 ^ k; right = rightKind side; deed = d }
+walkFor k side d = walkOf (2 ^ k) (rightKind side) d
 
 -- a kind is one of five
 pub data Kind (k : ℕ) : Type 0 where
@@ -59,7 +59,7 @@ module _ (s : List ℕ) (acc : Accepted s) (k : ℕ) (side : Side) (d : ℕ) whe
   g = seenAt s (suc k)
 
   abbrev Arcs : ℕ → ℕ → Type 0
-  Arcs = Steps s (edgeTable s) (walkFor k side d) false (headerOf s .edges)
+  Arcs = Steps s (edgeTable s) (walkFor k side d) (headerOf s .edges)
 
   -- a link between two node rows, as the office sees it
   pub data Link (a b : ℕ) : Type 0 where

@@ -56,7 +56,7 @@ module _ (s : List ℕ) (acc : Accepted s) (k : ℕ) (side : Side) (d : ℕ) (so
   g = seenAt s (suc k)
 
   abbrev Arcs : ℕ → ℕ → Type 0
-  Arcs = Steps s (edgeTable s) (walkFor k side d) false (headerOf s .edges)
+  Arcs = Steps s (edgeTable s) (walkFor k side d) (headerOf s .edges)
 
   abbrev Goal : ℕ → Type 0
   Goal x = x ≡ rf
@@ -141,7 +141,7 @@ module _ (s : List ℕ) (acc : Accepted s) (k : ℕ) (side : Side) (d : ℕ) (so
   words-order x x′ l l′ h e (goes {b = y} {l = m} st w) (goes {b = y′} {l = m′} st′ w′) n (same q) =
       let z : length m ≡ length m′ = omega arith in
       same-pair (nodeAt s x .number) (nodeAt s x .variant) (nodeWords s m′) (nodeWords s m)
-      (words-order y y′ m m′ (step-inside s (edgeTable s) (headerOf s) (walkFor k side d) false _ y′ acc st′)
+      (words-order y y′ m m′ (step-inside s (edgeTable s) (headerOf s) (walkFor k side d) acc _ y′ st′ .1)
       (typed _ y m st w ∙ ap typeFor z ∙ sym (typed _ y′ m′ st′ w′)) w w′ z q)
 
   -- ---- the witness

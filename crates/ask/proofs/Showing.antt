@@ -20,7 +20,7 @@ use Rattle.paths.proofs.Trails.{sized}
 use Rattle.meaning.specs.Paths.{Side, rightKind}
 use Rattle.meaning.specs.Questions.{WitnessIs}
 use Rattle.walk.specs.declared.Walk.{Walk}
-use Rattle.walk.specs.Arcs.{Steps, Ready}
+use Rattle.walk.specs.Arcs.{Steps, walkOf, reversed, Ready}
 use Rattle.walk.proofs.Walking.{step-inside}
 use Rattle.question.specs.declared.Question.{Question}
 use Rattle.question.specs.Asked.{sideOf}
@@ -67,16 +67,16 @@ best-map f f′ b =
     }
 
 -- a trail stays among the rows that there are
-trail-inside : (s t : List ℕ) (h : Header) (w : Walk) (T : ℕ → Type 0) → WellFormed s t h → {a : ℕ} {l : List ℕ} → Trail (Steps s t w false (h .edges)) T a l → a < h .nodes → RowsIn (h .nodes) l (length l)
+trail-inside : (s t : List ℕ) (h : Header) (w : Walk) (T : ℕ → Type 0) → WellFormed s t h → {a : ℕ} {l : List ℕ} → Trail (Steps s t w (h .edges)) T a l → a < h .nodes → RowsIn (h .nodes) l (length l)
 trail-inside s t h w T f (ends x) q zero e = q
 trail-inside s t h w T f (ends x) q (suc i) e = absurd (omega (arith, e))
 trail-inside s t h w T f (goes st r) q zero e = q
-trail-inside s t h w T f (goes st r) q (suc i) e = trail-inside s t h w T f r (step-inside s t h w false _ _ f st) i (omega (arith, e))
+trail-inside s t h w T f (goes st r) q (suc i) e = trail-inside s t h w T f r (step-inside s t h w f _ _ st .1) i (omega (arith, e))
 
 module _ (s t : List ℕ) (h : Header) (f : WellFormed s t h) (k : ℕ) (side : Side) (q : Question) (rp rf : ℕ) (pl : Placed s q rp rf) (dist : List ℕ)
-    (y : Layers (Steps s t (walkFor k side (q .deed)) true (h .edges)) (λ x. x ≡ rf) dist) where
+    (y : Layers (Steps s t (reversed (walkFor k side (q .deed))) (h .edges)) (λ x. x ≡ rf) dist) where
   -- the walk back can be traced on from the numbers alone
-  pub traceable : Layers (Steps s t (walkFor k side (q .deed)) true (h .edges)) (Starts dist) dist
+  pub traceable : Layers (Steps s t (reversed (walkFor k side (q .deed))) (h .edges)) (Starts dist) dist
   traceable = layers-map (λ a b x. x) (λ a b x. x) (started y) (starts y) y
 
   pub record Shown (rows : List ℕ) (r : ℕ) : Type 0 where
@@ -84,11 +84,11 @@ module _ (s t : List ℕ) (h : Header) (f : WellFormed s t h) (k : ℕ) (side : 
     pub inside : RowsIn (h .nodes) rows r
     pub is : WitnessIs (seenAt s (suc k)) side (q .person) (q .deed) (q .folio) (nodeWords s (take r rows))
 
-  pub shown : (rows₀ rows : List ℕ) (r : ℕ) → Traced (Steps s t (walkFor k side (q .deed)) false (h .edges)) (Starts dist) rp rows₀ rows r → Shown rows r
+  pub shown : (rows₀ rows : List ℕ) (r : ℕ) → Traced (Steps s t (walkFor k side (q .deed)) (h .edges)) (Starts dist) rp rows₀ rows r → Shown rows r
   shown rows₀ rows r tr =
       let acc = words-of s t h f in
-      let own = subst (λ (x : Header). Best (Steps s (edgeTable s) (walkFor k side (q .deed)) false (x .edges)) (Starts dist) rp (tr .trail)) (f .head)
-      (subst (λ (x : List ℕ). Best (Steps s x (walkFor k side (q .deed)) false (h .edges)) (Starts dist) rp (tr .trail)) (f .table) (tr .best)) in
+      let own = subst (λ (x : Header). Best (Steps s (edgeTable s) (walkFor k side (q .deed)) (x .edges)) (Starts dist) rp (tr .trail)) (f .head)
+      (subst (λ (x : List ℕ). Best (Steps s x (walkFor k side (q .deed)) (h .edges)) (Starts dist) rp (tr .trail)) (f .table) (tr .best)) in
       let best = best-map (starts y) (started y) own in
       let front : take r rows ≡ tr .trail = ap (take r) (tr .wrote) ∙ take-at (tr .trail) _ r (tr .size) in
       record {
@@ -102,10 +102,10 @@ module _ (s t : List ℕ) (h : Header) (f : WellFormed s t h) (k : ℕ) (side : 
 
 -- ---- as the code has it: numbers measured at an office with its mark
 
-pub measured-so : (s t : List ℕ) (h : Header) (k mark : ℕ) → AtOffice s t h k mark → (q : Question) (rf : ℕ) (w : Walk) → w ≡ record { mark = mark; right = rightKind (sideOf (q .kind)); deed = q .deed }
-    → (d : List ℕ) → (length d ≡ maxNodes) × Layers (Steps s t w true (h .edges)) (λ x. x ≡ rf) d → Measured s t h k q rf d
+pub measured-so : (s t : List ℕ) (h : Header) (k mark : ℕ) → AtOffice s t h k mark → (q : Question) (rf : ℕ) (w : Walk) → w ≡ walkOf mark (rightKind (sideOf (q .kind))) (q .deed)
+    → (d : List ℕ) → (length d ≡ maxNodes) × Layers (Steps s t (reversed w) (h .edges)) (λ x. x ≡ rf) d → Measured s t h k q rf d
 measured-so s t h k mark at q rf w is d m =
-    record { long = m .0; layers = subst (λ (x : Walk). Layers (Steps s t x true (h .edges)) (λ y. y ≡ rf) d) (walk-is w k mark (q .kind) (q .deed) is (at .mark-is)) (m .1) }
+    record { long = m .0; layers = subst (λ (x : Walk). Layers (Steps s t (reversed x) (h .edges)) (λ y. y ≡ rf) d) (walk-is w k mark (q .kind) (q .deed) is (at .mark-is)) (m .1) }
 
 -- a row without a number has no witness
 pub no-witness : (s t : List ℕ) (h : Header) (k mark : ℕ) → AtOffice s t h k mark → (q : Question) (rp rf : ℕ) → Placed s q rp rf → (d : List ℕ) → Measured s t h k q rf d → getD d rp 0 ≡ 0
@@ -113,7 +113,7 @@ pub no-witness : (s t : List ℕ) (h : Header) (k mark : ℕ) → AtOffice s t h
 no-witness s t h k mark at q rp rf pl d me z ws x = path-reached s t h (at .formed) k (sideOf (q .kind)) q rp rf pl d (me .layers) (record { words = ws; is = x .holds }) z
 
 module _ (s t : List ℕ) (h : Header) (k mark : ℕ) (at : AtOffice s t h k mark) (q : Question) (rp rf : ℕ) (pl : Placed s q rp rf) (d : List ℕ) (me : Measured s t h k q rf d)
-    (w : Walk) (is : w ≡ record { mark = mark; right = rightKind (sideOf (q .kind)); deed = q .deed }) where
+    (w : Walk) (is : w ≡ walkOf mark (rightKind (sideOf (q .kind))) (q .deed)) where
   own-walk : w ≡ walkFor k (sideOf (q .kind)) (q .deed)
   own-walk = walk-is w k mark (q .kind) (q .deed) is (at .mark-is)
 
@@ -125,8 +125,8 @@ module _ (s t : List ℕ) (h : Header) (k mark : ℕ) (at : AtOffice s t h k mar
         room = let n = at .formed .nodes .header .nodes in omega (arith, me .long);
       }
 
-  pub trace-layers : Layers (Steps s t w true (h .edges)) (Starts d) d
-  trace-layers = subst (λ (x : Walk). Layers (Steps s t x true (h .edges)) (Starts d) d) (sym own-walk) (traceable s t h (at .formed) k (sideOf (q .kind)) q rp rf pl d (me .layers))
+  pub trace-layers : Layers (Steps s t (reversed w) (h .edges)) (Starts d) d
+  trace-layers = subst (λ (x : Walk). Layers (Steps s t (reversed x) (h .edges)) (Starts d) d) (sym own-walk) (traceable s t h (at .formed) k (sideOf (q .kind)) q rp rf pl d (me .layers))
 
   pub trace-from : rp < h .nodes
   trace-from = subst (λ (x : Header). rp < x .nodes) (sym (at .formed .head)) (pl .person-in)
@@ -134,9 +134,9 @@ module _ (s t : List ℕ) (h : Header) (k mark : ℕ) (at : AtOffice s t h k mar
   pub trace-room : getD d rp 0 ≤ maxNodes
   trace-room = subst (λ (x : ℕ). getD d rp 0 ≤ x) (me .long) (number-bound _ _ d (me .layers) rp)
 
-  module _ (rows₀ rows : List ℕ) (r : ℕ) (tr : Traced (Steps s t w false (h .edges)) (Starts d) rp rows₀ rows r) where
+  module _ (rows₀ rows : List ℕ) (r : ℕ) (tr : Traced (Steps s t w (h .edges)) (Starts d) rp rows₀ rows r) where
     own : Shown s t h (at .formed) k (sideOf (q .kind)) q rp rf pl d (me .layers) rows r
-    own = shown s t h (at .formed) k (sideOf (q .kind)) q rp rf pl d (me .layers) rows₀ rows r (subst (λ (x : Walk). Traced (Steps s t x false (h .edges)) (Starts d) rp rows₀ rows r) own-walk tr)
+    own = shown s t h (at .formed) k (sideOf (q .kind)) q rp rf pl d (me .layers) rows₀ rows r (subst (λ (x : Walk). Traced (Steps s t x (h .edges)) (Starts d) rp rows₀ rows r) own-walk tr)
 
     long : r ≤ length rows
     long = let e = ap length (tr .wrote) in let z = tr .size in omega (arith, length-append (tr .trail) (drop r rows₀))

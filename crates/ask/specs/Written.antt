@@ -10,7 +10,7 @@ use Rattle.sheet.specs.Limits.{maxNodes}
 use Rattle.sheet.specs.Rows.{nodeAt}
 use Rattle.sheet.specs.Named.{seenAt}
 use Rattle.paths.specs.Steps.{Layers}
-use Rattle.walk.specs.Arcs.{Steps}
+use Rattle.walk.specs.Arcs.{Steps, walkOf, reversed}
 use Rattle.meaning.specs.Paths.{rightKind}
 use Rattle.meaning.specs.Questions.{WitnessIs}
 use Rattle.question.specs.declared.Question.{Question}
@@ -28,7 +28,7 @@ RowsIn nodes rows n = (i : ℕ) → i < n → getD rows i 0 < nodes
 -- the numbers of the walk back from a row, of the question's side at office k + 1
 pub record Measured (s t : List ℕ) (h : Header) (k : ℕ) (q : Question) (to : ℕ) (d : List ℕ) : Type 0 where
   pub long : length d ≡ maxNodes
-  pub layers : Layers (Steps s t (record { mark = 2 ^ k; right = rightKind (sideOf (q .kind)); deed = q .deed }) true (h .edges)) (λ x. x ≡ to) d
+  pub layers : Layers (Steps s t (reversed (walkOf (2 ^ k) (rightKind (sideOf (q .kind))) (q .deed))) (h .edges)) (λ x. x ≡ to) d
 
 -- n rows in front whose words are the witness of the question at office k + 1
 pub record PathRows (s : List ℕ) (nodes k : ℕ) (q : Question) (n : ℕ) (rows : List ℕ) : Type 0 where

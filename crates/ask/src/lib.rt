@@ -14,7 +14,7 @@ ghost use Rattle.sheet.specs.Rows.{headerOf};
 ghost use Rattle.sheet.specs.Accepted.{NodesFormed, WellFormed, Accepted};
 ghost use Rattle.sheet.specs.Named.{seenAt};
 ghost use Rattle.paths.specs.Steps.{Layers};
-ghost use Rattle.walk.specs.Arcs.{Steps};
+ghost use Rattle.walk.specs.Arcs.{Steps, walkOf, reversed};
 ghost use Rattle.meaning.specs.Paths.{rightKind, HasPath};
 ghost use Rattle.meaning.specs.Answers.{Says, answered, AnswerIs, lowest, undetermined, jointly, JointIs};
 ghost use Rattle.meaning.specs.Questions.{WitnessIs};
@@ -66,22 +66,19 @@ fn places_of(sheet: &[u32], h: Header, any: bool, k: u32, mark: u32, q: Question
 // How many steps lead from each node row to a row, and one; 0 where none do.
 fn measured(sheet: &[u32], edges: &[u32], h: Header, w: Walk, to: u32) -> [u32; ROWS]
     requires { ⌜ WellFormed (now sheet) (now edges) h × (0 < w .mark) × (to < h .nodes) ⌝ }
-    ensures { λ r. ⌜ (length r ≡ maxNodes) × Layers (Steps (now (sheet .entry)) (now (edges .entry)) w true (h .edges)) (λ x. x ≡ to) r ⌝ }
+    ensures { λ r. ⌜ (length r ≡ maxNodes) × Layers (Steps (now (sheet .entry)) (now (edges .entry)) (reversed w) (h .edges)) (λ x. x ≡ to) r ⌝ }
 {
     let mut d = walk::target(to);
-    walk::layers(sheet, edges, h, w, true, &mut d);
+    let back = walk::reversed(w);
+    walk::layers(sheet, edges, h, back, &mut d);
     d
 }
 
 // The walk of a side's paths.
 fn walk_for(mark: u32, kind: u32, deed: u32) -> Walk
-    ensures { λ r. ⌜ r ≡ record { mark = mark; right = rightKind (sideOf kind); deed = deed } ⌝ }
+    ensures { λ r. ⌜ r ≡ walkOf mark (rightKind (sideOf kind)) deed ⌝ }
 {
-    Walk {
-        mark: mark,
-        right: question::right_of(kind),
-        deed: deed,
-    }
+    walk::walk_of(mark, question::right_of(kind), deed)
 }
 
 // Whether office k + 1 has a grant or a ban path for the question's person, deed and folio.

@@ -15,12 +15,10 @@ use Rattle.sheet.specs.Rows.{nodeAt}
 use Rattle.paths.specs.Steps.{Layers, Starts}
 use Rattle.paths.proofs.Tests.{and-left, and-right, both}
 use Rattle.walk.specs.declared.Walk.{Walk}
-use Rattle.sheet.specs.Accepted.{WellFormed}
-use Rattle.walk.specs.declared.LeftOut.{LeftOut}
-use Rattle.walk.specs.Arcs.{noneLeftOut, Others}
-use Rattle.walk.proofs.Visiting.{whole-layers}
+use Rattle.walk.specs.Arcs.{Steps, walkOf, Arranged}
+use Rattle.question.specs.Checked.{AtOffice}
 use Rattle.reach.specs.Reaching.{LeadsTo, ByDeed}
-use Rattle.least.specs.Least.{starting, DeedStarts, RowsByDeed}
+use Rattle.least.specs.Least.{Prepared, starting, DeedStarts, RowsByDeed}
 use Rattle.reach.proofs.Marking.{some-number, number-some, starts-tell}
 
 -- ---- from the deed rows of a number
@@ -39,8 +37,8 @@ is-starting r v number a b c = both (eq-eqb (r .class) 3 a) (both (eq-eqb (r .nu
 pub deed-start : (x y : Node) (u number v : ℕ) → x ≡ y → v ≡ numberOf (starting x u number) → v ≡ numberOf (starting y u number)
 deed-start x y u number v e q = q ∙ ap (λ (z : Node). numberOf (starting z u number)) e
 
-pub rows-by : (s t : List ℕ) (h : Header) (w : Walk) (d : List ℕ) (number : ℕ) (r₀ r : List ℕ) → WellFormed s t h → (but : LeftOut) → but ≡ noneLeftOut h → length r ≡ maxNodes → DeedStarts s (h .nodes) d number r₀ → Layers (Others s t w false but (h .edges)) (Starts r₀) r → RowsByDeed s t h w d number r
-rows-by s t h w d number r₀ r f but q e st y = record { long = e; each = λ i l. starts-tell s t h w (λ x. starting (nodeAt s x) (getD d x 0) number) r₀ r st (whole-layers s t h w false but q f (Starts r₀) r y) i (ByDeed s t h w d number i) (from i) to }
+pub rows-by : (s t : List ℕ) (h : Header) (w : Walk) (d : List ℕ) (number : ℕ) (r₀ r : List ℕ) → length r ≡ maxNodes → DeedStarts s (h .nodes) d number r₀ → Layers (Steps s t w (h .edges)) (Starts r₀) r → RowsByDeed s t h w d number r
+rows-by s t h w d number r₀ r e st y = record { long = e; each = λ i l. starts-tell s t h w (λ x. starting (nodeAt s x) (getD d x 0) number) r₀ r st y i (ByDeed s t h w d number i) (from i) to }
   where
     from : (i x : ℕ) → x < h .nodes → starting (nodeAt s x) (getD d x 0) number ≡ true → LeadsTo s t h w x i → ByDeed s t h w d number i
     from i x l e m =
@@ -49,3 +47,7 @@ rows-by s t h w d number r₀ r f but q e st y = record { long = e; each = λ i 
 
     to : {i : ℕ} → ByDeed s t h w d number i → (x : ℕ) × (x < h .nodes) × (starting (nodeAt s x) (getD d x 0) number ≡ true) × LeadsTo s t h w x i
     to b = (b .row, b .inside, is-starting (nodeAt s (b .row)) (getD d (b .row) 0) number (b .class) (b .numbered) (b .marked-so), b .leads)
+
+-- a walk for any deed, and its arcs in order
+pub prepared : (s t : List ℕ) (h : Header) (k mark right : ℕ) → AtOffice s t h k mark → (w : Walk) → w ≡ walkOf mark right 0 → (index : List ℕ) → Arranged s t h w index → Prepared s t h k right w index
+prepared s t h k mark right at w e index a = record { walks = e ∙ ap (λ (m : ℕ). walkOf m right 0) (at .mark-is); some = rw e (at .mark-some); arranged = a }

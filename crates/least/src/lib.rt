@@ -24,9 +24,6 @@ ghost use Rattle.least.specs.Least.{Prepared, starting, DeedStarts, Rows
 // One number for each node row.
 const ROWS: usize = sheet::MAX_NODES as usize;
 
-// The longest list, one word for each edge row.
-const LIST: usize = sheet::MAX_EDGES as usize;
-
 // What a search found: the numbers of a person, a deed and a folio; a pair leaves the deed 0.
 struct Hit {
     found: bool,
@@ -68,17 +65,15 @@ fn rows_by_deed(
     edges: &[u32],
     h: Header,
     w: Walk,
-    head: &[u32],
-    next: &[u32],
+    index: &[u32],
     d: [u32; ROWS],
     number: u32,
 ) -> [u32; ROWS]
-    requires { ⌜ WellFormed (now sheet) (now edges) h × (0 < w .mark) × Arranged (now sheet) (now edges) h w false (now head) (now next) × (length d ≡ maxNodes) ⌝ }
+    requires { ⌜ WellFormed (now sheet) (now edges) h × (0 < w .mark) × Arranged (now sheet) (now edges) h w (now index) × (length d ≡ maxNodes) ⌝ }
     ensures { λ r. ⌜ RowsByDeed (now (sheet .entry)) (now (edges .entry)) h w d number r ⌝ }
 {
     let mut rows = deed_starts(sheet, h, d, number);
-    let none = walk::none_left_out(h);
-    walk::run(sheet, edges, h, w, false, none, head, next, &mut rows);
+    walk::run(sheet, edges, h, w, index, &mut rows);
     rows
 }
 
@@ -171,19 +166,18 @@ fn pair_folio(
     k: u32,
     q: Question,
     w: Walk,
-    head: &[u32],
-    next: &[u32],
+    index: &[u32],
     i: u32,
 ) -> u32
-    requires { ⌜ WellFormed (now sheet) (now edges) h × Prepared (now sheet) (now edges) h k 3 w (now head) (now next) × (i < h .nodes) ⌝ }
+    requires { ⌜ WellFormed (now sheet) (now edges) h × Prepared (now sheet) (now edges) h k 3 w (now index) × (i < h .nodes) ⌝ }
     ensures { λ r. ⌜ FirstRow (PairRows (now (sheet .entry)) k (q .deed) (q .other) i) (h .nodes) r ⌝ }
 {
     if !is_class(sheet, h, i, 1) {
         return h.nodes;
     }
-    let d = reach::person_reach(sheet, edges, h, w, head, next, i);
-    let one = rows_by_deed(sheet, edges, h, w, head, next, d, q.deed);
-    let two = rows_by_deed(sheet, edges, h, w, head, next, d, q.other);
+    let d = reach::person_reach(sheet, edges, h, w, index, i);
+    let one = rows_by_deed(sheet, edges, h, w, index, d, q.deed);
+    let two = rows_by_deed(sheet, edges, h, w, index, d, q.other);
     first_common(sheet, h, &one, &two)
 }
 
@@ -220,45 +214,21 @@ fn first_pair(
     k: u32,
     q: Question,
     w: Walk,
-    head: &[u32],
-    next: &[u32],
+    index: &[u32],
 ) -> Hit
-    requires { ⌜ WellFormed (now sheet) (now edges) h × Prepared (now sheet) (now edges) h k 3 w (now head) (now next) ⌝ }
+    requires { ⌜ WellFormed (now sheet) (now edges) h × Prepared (now sheet) (now edges) h k 3 w (now index) ⌝ }
     ensures { λ r. ⌜ Hits (LeastPairIs (seenAt (now (sheet .entry)) (suc k)) (q .deed) (q .other)) (r .person ∷ r .folio ∷ []) (r .found) ⌝ }
 {
     let n = h.nodes;
     let mut i: u32 = 0;
     while i < n {
-        let f = pair_folio(sheet, edges, h, k, q, w, head, next, i);
+        let f = pair_folio(sheet, edges, h, k, q, w, index, i);
         if f < n {
             return hit_at(sheet, h, i, 0, f);
         }
         i += 1;
     }
     no_hit()
-}
-
-// The walk of grants (3) or bans (4) for any deed, with its arcs put in order.
-fn prepare(
-    sheet: &[u32],
-    edges: &[u32],
-    h: Header,
-    k: u32,
-    mark: u32,
-    right: u32,
-    head: &mut [u32],
-    next: &mut [u32],
-) -> Walk
-    requires { ⌜ AtOffice (now sheet) (now edges) h k mark × (h .nodes ≤ length (now head)) × (h .edges ≤ length (now next)) × ((i : ℕ) → getD (now head) i 0 ≡ 0) ⌝ }
-    ensures { λ r. ⌜ Prepared (now (sheet .entry)) (now (edges .entry)) h k right r (now (head .exit)) (now (next .exit)) ⌝ }
-{
-    let w = Walk {
-        mark: mark,
-        right: right,
-        deed: 0,
-    };
-    walk::arrange(sheet, edges, h, w, false, head, next);
-    w
 }
 
 // Question 9 at office k + 1: the least (person, folio) with a grant path for each of two deeds, as two words.
@@ -274,10 +244,9 @@ pub fn least_pair(
     requires { ⌜ AtOffice (now sheet) (now edges) h k mark × (length (now list) ≡ maxEdges) ⌝ }
     ensures { λ r. ⌜ Finds (LeastPairIs (seenAt (now (sheet .entry)) (suc k)) (q .deed) (q .other)) (now (list .exit)) r ⌝ }
 {
-    let mut head = [0u32; ROWS];
-    let mut next = [0u32; LIST];
-    let w = prepare(sheet, edges, h, k, mark, 3, &mut head, &mut next);
-    let hit = first_pair(sheet, edges, h, k, q, w, &head, &next);
+    let w = walk::walk_of(mark, 3, 0);
+    let index = walk::arranged(sheet, edges, h, w);
+    let hit = first_pair(sheet, edges, h, k, q, w, &index);
     if !hit.found {
         return reach::NONE;
     }
@@ -293,13 +262,11 @@ fn first_both(
     h: Header,
     k: u32,
     grants: Walk,
-    granthead: &[u32],
-    grantnext: &[u32],
+    grantindex: &[u32],
     bans: Walk,
-    banhead: &[u32],
-    bannext: &[u32],
+    banindex: &[u32],
 ) -> Hit
-    requires { ⌜ WellFormed (now sheet) (now edges) h × Prepared (now sheet) (now edges) h k 3 grants (now granthead) (now grantnext) × Prepared (now sheet) (now edges) h k 4 bans (now banhead) (now bannext) ⌝ }
+    requires { ⌜ WellFormed (now sheet) (now edges) h × Prepared (now sheet) (now edges) h k 3 grants (now grantindex) × Prepared (now sheet) (now edges) h k 4 bans (now banindex) ⌝ }
     ensures { λ r. ⌜ Hits (LeastBothIs (seenAt (now (sheet .entry)) (suc k))) (r .person ∷ r .deed ∷ r .folio ∷ []) (r .found) ⌝ }
 {
     let n = h.nodes;
@@ -308,15 +275,15 @@ fn first_both(
         if !is_class(sheet, h, i, 1) {
             continue;
         }
-        let d = reach::person_reach(sheet, edges, h, grants, granthead, grantnext, i);
-        let e = reach::person_reach(sheet, edges, h, bans, banhead, bannext, i);
+        let d = reach::person_reach(sheet, edges, h, grants, grantindex, i);
+        let e = reach::person_reach(sheet, edges, h, bans, banindex, i);
         for x in 0..n {
             if !is_new_deed(sheet, h, &d, x) {
                 continue;
             }
             let m = number_at(sheet, h, x);
-            let one = rows_by_deed(sheet, edges, h, grants, granthead, grantnext, d, m);
-            let two = rows_by_deed(sheet, edges, h, bans, banhead, bannext, e, m);
+            let one = rows_by_deed(sheet, edges, h, grants, grantindex, d, m);
+            let two = rows_by_deed(sheet, edges, h, bans, banindex, e, m);
             for f in 0..n {
                 if is_common(sheet, h, &one, &two, f) {
                     hit = hit_at(sheet, h, i, m, f);
@@ -340,24 +307,11 @@ pub fn least_both(
     requires { ⌜ AtOffice (now sheet) (now edges) h k mark × (length (now list) ≡ maxEdges) ⌝ }
     ensures { λ r. ⌜ Finds (LeastBothIs (seenAt (now (sheet .entry)) (suc k))) (now (list .exit)) r ⌝ }
 {
-    let mut granthead = [0u32; ROWS];
-    let mut grantnext = [0u32; LIST];
-    let grants = prepare(sheet, edges, h, k, mark, 3, &mut granthead, &mut grantnext);
-    let mut banhead = [0u32; ROWS];
-    let mut bannext = [0u32; LIST];
-    let bans = prepare(sheet, edges, h, k, mark, 4, &mut banhead, &mut bannext);
-    let hit = first_both(
-        sheet,
-        edges,
-        h,
-        k,
-        grants,
-        &granthead,
-        &grantnext,
-        bans,
-        &banhead,
-        &bannext,
-    );
+    let grants = walk::walk_of(mark, 3, 0);
+    let grantindex = walk::arranged(sheet, edges, h, grants);
+    let bans = walk::walk_of(mark, 4, 0);
+    let banindex = walk::arranged(sheet, edges, h, bans);
+    let hit = first_both(sheet, edges, h, k, grants, &grantindex, bans, &banindex);
     if !hit.found {
         return reach::NONE;
     }

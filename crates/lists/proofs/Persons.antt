@@ -22,6 +22,7 @@ use Rattle.meaning.specs.Forms.{Rising}
 use Rattle.meaning.specs.Questions.{InCategory, PersonsAre, HoldersAre}
 use Rattle.meaning.proofs.Axioms.{a1-a2}
 use Rattle.walk.specs.declared.Walk.{Walk}
+use Rattle.walk.specs.Arcs.{walkOf}
 use Rattle.question.specs.Asked.{FirstStanding, stands, known}
 use Rattle.tables.specs.Count.{someRow}
 use Rattle.question.specs.Checked.{AtOffice}
@@ -102,12 +103,12 @@ module _ (s t : List ℕ) (h : Header) (f : WellFormed s t h) (k c n to : ℕ) (
       let a = found-class s false (suc k) c n to (x .found found-in) in
       plain-row s t h f to c found-in (a .0) z ∙ ap (λ (y : ℕ). identity c y 0) (a .1)
 
-module _ (s t : List ℕ) (h : Header) (k mark : ℕ) (at : AtOffice s t h k mark) (w : Walk) (d to : ℕ) (is : w ≡ record { mark = mark; right = 3; deed = d }) (inside : to < h .nodes) where
+module _ (s t : List ℕ) (h : Header) (k mark : ℕ) (at : AtOffice s t h k mark) (w : Walk) (d to : ℕ) (is : w ≡ walkOf mark 3 d) (inside : to < h .nodes) where
   abbrev f : WellFormed s t h
   f = at .formed
 
   walks : w ≡ walkFor k grant d
-  walks = is ∙ ap (λ (x : ℕ). record { mark = x; right = 3; deed = d }) (at .mark-is)
+  walks = is ∙ ap (λ (x : ℕ). walkOf x 3 d) (at .mark-is)
 
   own : (i : ℕ) → LeadsTo s t h w i to → LeadsTo s t h (walkFor k grant d) i to
   own i l = subst (λ (x : Walk). LeadsTo s t h x i to) walks l

@@ -2,7 +2,6 @@
 -- Assumes nothing.
 use Prim.Native.Nat.{ℕ}
 use mathlib.Core.Path.{_≡_}
-use mathlib.Core.Bool.{false}
 use mathlib.Core.List.{List}
 use lib.Dec.{eqb}
 use lib.ListN.{length}
@@ -19,7 +18,7 @@ use Rattle.reach.proofs.Marking.{starts-tell}
 
 -- ---- from the persons' rows
 
-pub persons-lead : (s t : List ℕ) (h : Header) (w : Walk) (r₀ r : List ℕ) → length r ≡ maxNodes → Started (λ i. eqb (nodeAt s i .class) 1) (h .nodes) r₀ → Layers (Steps s t w false (h .edges)) (Starts r₀) r → PersonsLead s t h w r
+pub persons-lead : (s t : List ℕ) (h : Header) (w : Walk) (r₀ r : List ℕ) → length r ≡ maxNodes → Started (λ i. eqb (nodeAt s i .class) 1) (h .nodes) r₀ → Layers (Steps s t w (h .edges)) (Starts r₀) r → PersonsLead s t h w r
 persons-lead s t h w r₀ r e st y =
     record {
       long = e;

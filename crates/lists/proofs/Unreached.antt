@@ -20,6 +20,7 @@ use Rattle.meaning.specs.Forms.{Rising}
 use Rattle.meaning.specs.Questions.{UnreachedAre}
 use Rattle.meaning.proofs.Axioms.{a1-a2}
 use Rattle.walk.specs.declared.Walk.{Walk}
+use Rattle.walk.specs.Arcs.{walkOf}
 use Rattle.question.specs.Checked.{AtOffice}
 use Rattle.ask.proofs.Links.{walkFor}
 use Rattle.sheet.proofs.Forming.{words-of}
@@ -30,7 +31,7 @@ use Rattle.reach.proofs.Collecting.{rising-map, finds-map}
 use Rattle.reach.proofs.Leading.{plain-row, folio-of, folio-leads}
 use Rattle.reach.proofs.Rows.{SeenRow, seen-row}
 
-module _ (s t : List ℕ) (h : Header) (k mark : ℕ) (at : AtOffice s t h k mark) (w : Walk) (is : w ≡ record { mark = mark; right = 3; deed = 0 }) (d : List ℕ) (r : PersonsLead s t h w d) where
+module _ (s t : List ℕ) (h : Header) (k mark : ℕ) (at : AtOffice s t h k mark) (w : Walk) (is : w ≡ walkOf mark 3 0) (d : List ℕ) (r : PersonsLead s t h w d) where
   abbrev f : WellFormed s t h
   f = at .formed
 
@@ -38,7 +39,7 @@ module _ (s t : List ℕ) (h : Header) (k mark : ℕ) (at : AtOffice s t h k mar
   g = seenAt s (suc k)
 
   walks : w ≡ walkFor k grant 0
-  walks = is ∙ ap (λ (x : ℕ). record { mark = x; right = 3; deed = 0 }) (at .mark-is)
+  walks = is ∙ ap (λ (x : ℕ). walkOf x 3 0) (at .mark-is)
 
   -- a path leads to the folio's row from the person's
   led : (i n p y : ℕ) → i < h .nodes → nodeKeyAt s i ≡ folio n → HasPath g grant p y n → FromPersons s t h w i

@@ -15,7 +15,7 @@ ghost use Rattle.sheet.specs.Refusals.{_is_, _when_otherwise_, none};
 ghost use Rattle.sheet.specs.Rows.{headerOf, nodeAt};
 ghost use Rattle.sheet.specs.Accepted.{NodesFormed, WellFormed};
 ghost use Rattle.sheet.specs.Named.{seenAt};
-ghost use Rattle.walk.specs.Arcs.{Arranged};
+ghost use Rattle.walk.specs.Arcs.{walkOf, Arranged};
 ghost use Rattle.meaning.specs.Forms.{Rising};
 ghost use Rattle.meaning.specs.Questions.{PersonsAre, HoldersAre, UnreachedAre};
 ghost use Rattle.question.specs.Asked.{known, badOffice, plain, afterSheet};
@@ -86,19 +86,18 @@ fn person_reaches(
     edges: &[u32],
     h: Header,
     w: Walk,
-    head: &[u32],
-    next: &[u32],
+    index: &[u32],
     from: u32,
     to: u32,
 ) -> u32
-    requires { ⌜ WellFormed (now sheet) (now edges) h × (0 < w .mark) × Arranged (now sheet) (now edges) h w false (now head) (now next) × (from < h .nodes) × (to < h .nodes) ⌝ }
+    requires { ⌜ WellFormed (now sheet) (now edges) h × (0 < w .mark) × Arranged (now sheet) (now edges) h w (now index) × (from < h .nodes) × (to < h .nodes) ⌝ }
     ensures { λ r. ⌜ (nodeAt (now (sheet .entry)) from .class ≡ 1 → Tells r (LeadsTo (now (sheet .entry)) (now (edges .entry)) h w from to)) ⌝ }
 {
     let r = sheet::node_at(sheet, from as usize);
     if r.class != 1 {
         return 0;
     }
-    let d = reach::person_reach(sheet, edges, h, w, head, next, from);
+    let d = reach::person_reach(sheet, edges, h, w, index, from);
     let at = to as usize;
     d[at]
 }
@@ -109,11 +108,10 @@ fn persons_reaching(
     edges: &[u32],
     h: Header,
     w: Walk,
-    head: &[u32],
-    next: &[u32],
+    index: &[u32],
     to: u32,
 ) -> [u32; ROWS]
-    requires { ⌜ WellFormed (now sheet) (now edges) h × (0 < w .mark) × Arranged (now sheet) (now edges) h w false (now head) (now next) × (to < h .nodes) ⌝ }
+    requires { ⌜ WellFormed (now sheet) (now edges) h × (0 < w .mark) × Arranged (now sheet) (now edges) h w (now index) × (to < h .nodes) ⌝ }
     ensures { λ r. ⌜ PersonsReach (now (sheet .entry)) (now (edges .entry)) h w to r ⌝ }
 {
     let mut m = [0u32; ROWS];
@@ -121,7 +119,7 @@ fn persons_reaching(
     let mut i: u32 = 0;
     while i < n {
         let at = i as usize;
-        m[at] = person_reaches(sheet, edges, h, w, head, next, i, to);
+        m[at] = person_reaches(sheet, edges, h, w, index, i, to);
         i += 1;
     }
     m
@@ -139,17 +137,11 @@ fn persons_to(
     list: &mut [u32],
 ) -> u32
     requires { ⌜ AtOffice (now sheet) (now edges) h k mark × (to < h .nodes) × (length (now list) ≡ maxEdges) ⌝ }
-    ensures { λ r. ⌜ Finds (Rising (PersonLeads (now (sheet .entry)) (now (edges .entry)) h (suc k) (record { mark = mark; right = 3; deed = deed }) to)) (now (list .exit)) r ⌝ }
+    ensures { λ r. ⌜ Finds (Rising (PersonLeads (now (sheet .entry)) (now (edges .entry)) h (suc k) (walkOf mark 3 deed) to)) (now (list .exit)) r ⌝ }
 {
-    let w = Walk {
-        mark: mark,
-        right: 3,
-        deed: deed,
-    };
-    let mut head = [0u32; ROWS];
-    let mut next = [0u32; LIST];
-    walk::arrange(sheet, edges, h, w, false, &mut head, &mut next);
-    let m = persons_reaching(sheet, edges, h, w, &head, &next, to);
+    let w = walk::walk_of(mark, 3, deed);
+    let index = walk::arranged(sheet, edges, h, w);
+    let m = persons_reaching(sheet, edges, h, w, &index, to);
     numbers_of(sheet, h, k, mark, 1, true, m, list)
 }
 
@@ -220,7 +212,7 @@ fn persons_lead(sheet: &[u32], edges: &[u32], h: Header, w: Walk) -> [u32; ROWS]
     ensures { λ r. ⌜ PersonsLead (now (sheet .entry)) (now (edges .entry)) h w r ⌝ }
 {
     let mut rows = person_starts(sheet, h);
-    walk::layers(sheet, edges, h, w, false, &mut rows);
+    walk::layers(sheet, edges, h, w, &mut rows);
     rows
 }
 
@@ -236,11 +228,7 @@ fn folios_unreached(
     requires { ⌜ AtOffice (now sheet) (now edges) h k mark × (length (now list) ≡ maxEdges) ⌝ }
     ensures { λ r. ⌜ Finds (UnreachedAre (seenAt (now (sheet .entry)) (suc k))) (now (list .exit)) r ⌝ }
 {
-    let w = Walk {
-        mark: mark,
-        right: 3,
-        deed: 0,
-    };
+    let w = walk::walk_of(mark, 3, 0);
     let d = persons_lead(sheet, edges, h, w);
     numbers_of(sheet, h, k, mark, 4, false, d, list)
 }

@@ -17,11 +17,8 @@ use Rattle.paths.specs.Steps.{Reached, start, then, Layers, Starts}
 use Rattle.paths.proofs.Distances.{zero-or, reached-map}
 use Rattle.paths.proofs.Rounds.{same-or}
 use Rattle.walk.specs.declared.Walk.{Walk}
-use Rattle.sheet.specs.Accepted.{WellFormed}
-use Rattle.walk.specs.declared.LeftOut.{LeftOut}
-use Rattle.walk.specs.Arcs.{noneLeftOut, Steps, Others}
+use Rattle.walk.specs.Arcs.{Steps}
 use Rattle.walk.specs.Outset.{Blank}
-use Rattle.walk.proofs.Visiting.{whole-layers}
 use Rattle.reach.specs.Reaching.{Tells, LeadsTo, Started, ReachedFrom}
 
 -- a test that a number is some
@@ -43,16 +40,12 @@ tells-map f f′ t = record { no = λ z q. t .no z (f′ q); yes = λ n. f (t .y
 
 -- ---- from one row
 
-pub reached-from : (s t : List ℕ) (h : Header) (w : Walk) (from : ℕ) (d : List ℕ) → WellFormed s t h → (but : LeftOut) → but ≡ noneLeftOut h → length d ≡ maxNodes → Layers (Others s t w false but (h .edges)) (λ x. x ≡ from) d → ReachedFrom s t h w from d
-reached-from s t h w from d f but q e y =
-    record {
-      long = e;
-      each = λ i l. layers-tell (whole-layers s t h w false but q f (λ x. x ≡ from) d y) i (LeadsTo s t h w from i) (λ n r. record { steps = n; reached = r }) (λ p. (p .steps, p .reached));
-    }
+pub reached-from : (s t : List ℕ) (h : Header) (w : Walk) (from : ℕ) (d : List ℕ) → length d ≡ maxNodes → Layers (Steps s t w (h .edges)) (λ x. x ≡ from) d → ReachedFrom s t h w from d
+reached-from s t h w from d e y = record { long = e; each = λ i l. layers-tell y i (LeadsTo s t h w from i) (λ n r. record { steps = n; reached = r }) (λ p. (p .steps, p .reached)) }
 
 -- ---- from the rows that pass a test
 
-pub starts-none : (test : ℕ → Bool) (r : List ℕ) → Blank r → Started test 0 r
+pub starts-none : (test : ℕ → Bool) (r : List ℕ) → Blank maxNodes r → Started test 0 r
 starts-none test r b =
     record { long = b .long; low = λ i. omega (arith, b .none i); sound = λ i e. absurd (omega (arith, e, b .none i)); whole = λ i l. absurd (omega arith) }
 
@@ -105,17 +98,17 @@ one-start (start {i = i} x) = (i, x, start refl)
 one-start (then r st) = let o = one-start r in (o .0, o .1, then (o .2) st)
 
 -- a walk from the rows that pass tells whether one of them leads to a row
-pub starts-tell : (s t : List ℕ) (h : Header) (w : Walk) (test : ℕ → Bool) (r₀ r : List ℕ) → Started test (h .nodes) r₀ → Layers (Steps s t w false (h .edges)) (Starts r₀) r → (i : ℕ) (P : Type 0)
+pub starts-tell : (s t : List ℕ) (h : Header) (w : Walk) (test : ℕ → Bool) (r₀ r : List ℕ) → Started test (h .nodes) r₀ → Layers (Steps s t w (h .edges)) (Starts r₀) r → (i : ℕ) (P : Type 0)
     → ((x : ℕ) → x < h .nodes → test x ≡ true → LeadsTo s t h w x i → P) → (P → (x : ℕ) × (x < h .nodes) × (test x ≡ true) × LeadsTo s t h w x i) → Tells (getD r i 0) P
 starts-tell s t h w test r₀ r st y i P f f′ = layers-tell y i P from to
   where
-    from : (n : ℕ) → Reached (Steps s t w false (h .edges)) (Starts r₀) n i → P
+    from : (n : ℕ) → Reached (Steps s t w (h .edges)) (Starts r₀) n i → P
     from n x =
         let o = one-start x in
         let q = st .sound (o .0) (o .1) in
         f (o .0) (q .0) (q .1) (record { steps = n; reached = o .2 })
 
-    to : P → (n : ℕ) × Reached (Steps s t w false (h .edges)) (Starts r₀) n i
+    to : P → (n : ℕ) × Reached (Steps s t w (h .edges)) (Starts r₀) n i
     to p =
         let b = f′ p in
         (b .3 .steps, reached-map (λ x z m. m) (λ x z. ap (λ (y : ℕ). getD r₀ y 0) z ∙ st .whole (b .0) (b .1) (b .2)) (b .3 .reached))

@@ -1,7 +1,6 @@
 // What a walk reaches from a row, as numbers and in identities, and how what is found is collected in a list.
 use sheet::Header;
 use walk::Walk;
-ghost use mathlib.Core.Bool.{false};
 ghost use Prim.Native.Nat.{_<_, _≤_};
 ghost use lib.ListN.{length};
 ghost use Rattle.sheet.specs.Accepted.{WellFormed};
@@ -34,12 +33,11 @@ pub fn person_reach(
     edges: &[u32],
     h: Header,
     w: Walk,
-    head: &[u32],
-    next: &[u32],
+    index: &[u32],
     from: u32,
 ) -> [u32; ROWS]
-    requires { ⌜ WellFormed (now sheet) (now edges) h × (0 < w .mark) × Arranged (now sheet) (now edges) h w false (now head) (now next) × (from < h .nodes) ⌝ }
+    requires { ⌜ WellFormed (now sheet) (now edges) h × (0 < w .mark) × Arranged (now sheet) (now edges) h w (now index) × (from < h .nodes) ⌝ }
     ensures { λ r. ⌜ ReachedFrom (now (sheet .entry)) (now (edges .entry)) h w from r ⌝ }
 {
-    walk::reach(sheet, edges, h, w, walk::none_left_out(h), head, next, from)
+    walk::reach(sheet, edges, h, w, index, from)
 }

@@ -20,9 +20,8 @@ use Rattle.paths.proofs.Tests.{and-right}
 use Rattle.meaning.specs.Paths.{Side, rightKind, person, category, deed, member, right, step}
 use Rattle.meaning.specs.Questions.{Redundant, member-row, containment-row, right-row}
 use Rattle.walk.specs.declared.Walk.{Walk}
-use Rattle.walk.specs.Arcs.{takes, turned, tailOf, headOf, arcAt, Others}
-use Rattle.walk.specs.declared.LeftOut.{LeftOut}
-use Rattle.walk.proofs.Visiting.{other-step, other-apart, step-other, other-inside}
+use Rattle.walk.specs.Arcs.{takes, turned, tailOf, headOf, arcAt, Steps, leavingOut}
+use Rattle.walk.proofs.Walking.{step-inside, other-step, other-apart, step-other}
 use Rattle.ask.proofs.Links.{walkFor, Link, joins, climbs, gives-right, serves, link-of, member-arc, step-arc, right-arc, same-row}
 use Rattle.redundant.specs.Pruned.{sideFor}
 use Rattle.reach.proofs.Reaching.{Step, own-step, any-step}
@@ -59,12 +58,12 @@ module _ (s : List ℕ) (acc : Accepted s) (k : ℕ) (side : Side) (j : ℕ) whe
   abbrev w : Walk
   w = walkFor k side 0
 
-  -- the row's own step
-  abbrev own : LeftOut
-  own = record { near = from; far = to }
+  -- the walk but for the row's own step
+  abbrev past : Walk
+  past = leavingOut w (record { some = true; from = from; to = to })
 
   abbrev Other : ℕ → ℕ → Type 0
-  Other = Others s (edgeTable s) w false own (headerOf s .edges)
+  Other = Steps s (edgeTable s) past (headerOf s .edges)
 
   -- the other steps lead from the row's one end to the other
   pub record Past : Type 0 where
@@ -88,13 +87,13 @@ module _ (s : List ℕ) (acc : Accepted s) (k : ℕ) (side : Side) (j : ℕ) whe
 
     aside-of : (a b : ℕ) → Other a b → Aside a b
     aside-of a b x =
-        let y = other-step s (edgeTable s) w false own (headerOf s .edges) a b x in
+        let y = other-step s (edgeTable s) (2 ^ k) (rightKind side) 0 from to (headerOf s .edges) a b x in
         let o = any-step s acc k side 0 a b y in
         record {
           for = o .0;
           link = link-of s acc k side (o .0) (o .1) a b (o .3);
-          inside = other-inside s (edgeTable s) (headerOf s) w false own acc a b x .1;
-          apart = other-apart s (edgeTable s) w false own (headerOf s .edges) a b x;
+          inside = step-inside s (edgeTable s) (headerOf s) past acc a b x .1;
+          apart = other-apart s (edgeTable s) (2 ^ k) (rightKind side) 0 from to (headerOf s .edges) a b x;
         }
 
     -- the ends of row j
@@ -107,7 +106,7 @@ module _ (s : List ℕ) (acc : Accepted s) (k : ℕ) (side : Side) (j : ℕ) whe
     enters-to = rw straight
 
     past-step : (a b : ℕ) → Step s acc k side 0 a b → (a ≡ from → b ≡ to → ⊥) → Other a b
-    past-step a b x apart = step-other s (edgeTable s) w false own (headerOf s .edges) a b x apart
+    past-step a b x apart = step-other s (edgeTable s) (2 ^ k) (rightKind side) 0 from to (headerOf s .edges) a b x apart
 
     -- ---- where a walk by other steps leads: types never fall, and from a deed on they rise
 

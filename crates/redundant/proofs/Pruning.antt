@@ -23,7 +23,7 @@ use Rattle.meaning.specs.Paths.{Side, rightKind}
 use Rattle.meaning.specs.Answers.{Says}
 use Rattle.meaning.specs.Questions.{RedundantRow, RedundantAre}
 use Rattle.walk.specs.declared.LeftOut.{LeftOut}
-use Rattle.walk.specs.Arcs.{takes, Others}
+use Rattle.walk.specs.Arcs.{takes, Steps, leavingOut}
 use Rattle.ask.proofs.Links.{walkFor, kind-of}
 use Rattle.sheet.proofs.Forming.{words-of}
 use Rattle.redundant.specs.Pruned.{sideWalk, sideFor, stepOf, PastRow}
@@ -34,7 +34,7 @@ use Rattle.redundant.proofs.Past.{past-redundant, redundant-past}
 module _ (s : List ℕ) (k j : ℕ) (dist : List ℕ) (b : Bool) where
   -- row j of the edge table t bears the office's mark, and b says whether the walk's numbers reach its to end
   abbrev Judged : List ℕ → Header → Type 0
-  Judged t h = j < h .edges → marked (edgeAt t j .offices) (suc k) ≡ true → Layers (Others s t (walkFor k (sideFor (edgeAt t j .kind)) 0) false (stepOf (edgeAt t j)) (h .edges)) (λ x. x ≡ edgeAt t j .from) dist
+  Judged t h = j < h .edges → marked (edgeAt t j .offices) (suc k) ≡ true → Layers (Steps s t (leavingOut (walkFor k (sideFor (edgeAt t j .kind)) 0) (stepOf (edgeAt t j))) (h .edges)) (λ x. x ≡ edgeAt t j .from) dist
       → b ≡ not (eqb (getD dist (edgeAt t j .to) 0) 0) → Says b (RedundantRow s (suc k) j)
 
   judged-own : Accepted s → Judged (edgeTable s) (headerOf s)
@@ -76,9 +76,9 @@ unmarked s t h f k mark j e q m n r =
 
 -- the walk of the side by which the kind is judged
 pub past-by : (s t : List ℕ) (h : Header) (mark kind : ℕ) (but : LeftOut) (dist : List ℕ) (side : Side) → sideFor kind ≡ side
-    → (length dist ≡ maxNodes) × Layers (Others s t (sideWalk mark side) false but (h .edges)) (λ x. x ≡ but .near) dist → PastRow s t h mark kind but dist
+    → (length dist ≡ maxNodes) × Layers (Steps s t (leavingOut (sideWalk mark side) but) (h .edges)) (λ x. x ≡ but .from) dist → PastRow s t h mark kind but dist
 past-by s t h mark kind but dist side e y =
-    record { long = y .0; layers = subst (λ (S : Side). Layers (Others s t (sideWalk mark S) false but (h .edges)) (λ x. x ≡ but .near) dist) (sym e) (y .1) }
+    record { long = y .0; layers = subst (λ (S : Side). Layers (Steps s t (leavingOut (sideWalk mark S) but) (h .edges)) (λ x. x ≡ but .from) dist) (sym e) (y .1) }
 
 -- a marked row is redundant exactly if the numbers reach its to end
 pub redundant-by : (s t : List ℕ) (h : Header) → WellFormed s t h → (k mark j : ℕ) (e : Edge) (dist : List ℕ) (b : Bool) → e ≡ edgeAt t j → mark ≡ 2 ^ k → j < h .edges → e .offices / mark % 2 ≡ 1
@@ -90,7 +90,7 @@ redundant-by s t h f k mark j e dist b q m l o but z p =
     here-so : edgeAt t j .offices / mark % 2 ≡ 1 → PastRow s t h mark (edgeAt t j .kind) (stepOf (edgeAt t j)) dist → b ≡ not (eqb (getD dist (edgeAt t j .to) 0) 0) → Says b (RedundantRow s (suc k) j)
     here-so o p r =
         judged s k j dist b t h f l (eq-eqb _ 1 (subst (λ (x : ℕ). edgeAt t j .offices / x % 2 ≡ 1) m o))
-        (subst (λ (x : ℕ). Layers (Others s t (sideWalk x (sideFor (edgeAt t j .kind))) false (stepOf (edgeAt t j)) (h .edges)) (λ y. y ≡ edgeAt t j .from) dist) m (p .layers)) r
+        (subst (λ (x : ℕ). Layers (Steps s t (leavingOut (sideWalk x (sideFor (edgeAt t j .kind))) (stepOf (edgeAt t j))) (h .edges)) (λ y. y ≡ edgeAt t j .from) dist) m (p .layers)) r
 
 -- the rows collected are all that there are
 pub pruned-all : (s t : List ℕ) (h : Header) → WellFormed s t h → (k j : ℕ) (out : List ℕ) → h .edges ≤ j → Collected (RedundantRow s (suc k)) (λ i. i) j out → RedundantAre s (suc k) out

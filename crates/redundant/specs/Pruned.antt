@@ -2,7 +2,7 @@
 -- Assumes nothing.
 use Prim.Native.Nat.{ℕ}
 use mathlib.Core.Path.{_≡_}
-use mathlib.Core.Bool.{false, cond}
+use mathlib.Core.Bool.{true, cond}
 use mathlib.Core.List.{List}
 use lib.ListN.{length}
 use Rattle.sheet.specs.declared.Edge.{Edge}
@@ -13,26 +13,26 @@ use Rattle.paths.specs.Steps.{Layers}
 use Rattle.meaning.specs.Paths.{Side, grant, ban, rightKind}
 use Rattle.walk.specs.declared.Walk.{Walk}
 use Rattle.walk.specs.declared.LeftOut.{LeftOut}
-use Rattle.walk.specs.Arcs.{Others, Arranged}
+use Rattle.walk.specs.Arcs.{Steps, walkOf, leavingOut, Arranged}
 
 -- the walk of a side, for any deed
 abbrev pub sideWalk : ℕ → Side → Walk
-sideWalk mark side = record { mark = mark; right = rightKind side; deed = 0 }
+sideWalk mark side = walkOf mark (rightKind side) 0
 
 -- a ban row is judged by the bans' walk, every other by the grants'
 abbrev pub sideFor : ℕ → Side
 sideFor kind = cond (kind is 4) ban grant
 
 -- the arcs of both walks, in order
-pub record BothArranged (s t : List ℕ) (h : Header) (mark : ℕ) (grantHead grantNext banHead banNext : List ℕ) : Type 0 where
-  pub grants : Arranged s t h (sideWalk mark grant) false grantHead grantNext
-  pub bans : Arranged s t h (sideWalk mark ban) false banHead banNext
+pub record BothArranged (s t : List ℕ) (h : Header) (mark : ℕ) (grantIndex banIndex : List ℕ) : Type 0 where
+  pub grants : Arranged s t h (sideWalk mark grant) grantIndex
+  pub bans : Arranged s t h (sideWalk mark ban) banIndex
 
 -- the step that a row makes: the rows of its ends
 abbrev pub stepOf : Edge → LeftOut
-stepOf e = record { near = e .from; far = e .to }
+stepOf e = record { some = true; from = e .from; to = e .to }
 
 -- the numbers of the walk from the row that a step leaves, that step of a row of the given kind left out
 pub record PastRow (s t : List ℕ) (h : Header) (mark kind : ℕ) (but : LeftOut) (d : List ℕ) : Type 0 where
   pub long : length d ≡ maxNodes
-  pub layers : Layers (Others s t (sideWalk mark (sideFor kind)) false but (h .edges)) (λ x. x ≡ but .near) d
+  pub layers : Layers (Steps s t (leavingOut (sideWalk mark (sideFor kind)) but) (h .edges)) (λ x. x ≡ but .from) d

@@ -3,14 +3,11 @@ use question::Question;
 use sheet::Edge;
 use sheet::Header;
 use walk::LeftOut;
-use walk::Walk;
 ghost use mathlib.Core.Path.{_≡_};
-ghost use mathlib.Core.Bool.{false};
 ghost use Prim.Native.Nat.{suc, _/_, _%_, _<_};
 ghost use lib.ListN.{length};
 ghost use Rattle.sheet.specs.Limits.{maxEdges};
 ghost use Rattle.sheet.specs.Accepted.{WellFormed};
-ghost use Rattle.walk.specs.Arcs.{Arranged};
 ghost use Rattle.meaning.specs.Answers.{Says};
 ghost use Rattle.meaning.specs.Questions.{RedundantRow, RedundantAre};
 ghost use Rattle.question.specs.Checked.{AtOffice};
@@ -20,16 +17,14 @@ ghost use Rattle.redundant.specs.Pruned.{BothArranged, stepOf, PastRow};
 // One number for each node row.
 const ROWS: usize = sheet::MAX_NODES as usize;
 
-// The longest list, one word for each edge row.
-const LIST: usize = sheet::MAX_EDGES as usize;
-
 // The step that a row makes.
 fn step_of(e: Edge) -> LeftOut
     ensures { λ r. ⌜ r ≡ stepOf e ⌝ }
 {
     LeftOut {
-        near: e.from,
-        far: e.to,
+        some: true,
+        from: e.from,
+        to: e.to,
     }
 }
 
@@ -40,29 +35,19 @@ fn past_row(
     h: Header,
     mark: u32,
     kind: u32,
-    granthead: &[u32],
-    grantnext: &[u32],
-    banhead: &[u32],
-    bannext: &[u32],
+    grantindex: &[u32],
+    banindex: &[u32],
     but: LeftOut,
 ) -> [u32; ROWS]
-    requires { ⌜ WellFormed (now sheet) (now edges) h × (0 < mark) × BothArranged (now sheet) (now edges) h mark (now granthead) (now grantnext) (now banhead) (now bannext) × (but .near < h .nodes) ⌝ }
+    requires { ⌜ WellFormed (now sheet) (now edges) h × (0 < mark) × BothArranged (now sheet) (now edges) h mark (now grantindex) (now banindex) × (but .from < h .nodes) ⌝ }
     ensures { λ r. ⌜ PastRow (now (sheet .entry)) (now (edges .entry)) h mark kind but r ⌝ }
 {
     if kind == 4 {
-        let bans = Walk {
-            mark: mark,
-            right: 4,
-            deed: 0,
-        };
-        return walk::reach(sheet, edges, h, bans, but, banhead, bannext, but.near);
+        let bans = walk::leaving_out(walk::walk_of(mark, 4, 0), but);
+        return walk::reach(sheet, edges, h, bans, banindex, but.from);
     }
-    let grants = Walk {
-        mark: mark,
-        right: 3,
-        deed: 0,
-    };
-    walk::reach(sheet, edges, h, grants, but, granthead, grantnext, but.near)
+    let grants = walk::leaving_out(walk::walk_of(mark, 3, 0), but);
+    walk::reach(sheet, edges, h, grants, grantindex, but.from)
 }
 
 // Whether an edge row is marked and redundant at office k + 1: its to end is reached from its from end by other steps.
@@ -72,13 +57,11 @@ fn is_redundant(
     h: Header,
     k: u32,
     mark: u32,
-    granthead: &[u32],
-    grantnext: &[u32],
-    banhead: &[u32],
-    bannext: &[u32],
+    grantindex: &[u32],
+    banindex: &[u32],
     j: u32,
 ) -> bool
-    requires { ⌜ AtOffice (now sheet) (now edges) h k mark × (j < h .edges) × BothArranged (now sheet) (now edges) h mark (now granthead) (now grantnext) (now banhead) (now bannext) ⌝ }
+    requires { ⌜ AtOffice (now sheet) (now edges) h k mark × (j < h .edges) × BothArranged (now sheet) (now edges) h mark (now grantindex) (now banindex) ⌝ }
     ensures { λ r. ⌜ Says r (RedundantRow (now (sheet .entry)) (suc k) j) ⌝ }
 {
     let e = sheet::edge_at(edges, h, j as usize);
@@ -91,10 +74,8 @@ fn is_redundant(
         h,
         mark,
         e.kind,
-        granthead,
-        grantnext,
-        banhead,
-        bannext,
+        grantindex,
+        banindex,
         step_of(e),
     );
     let to = e.to as usize;
@@ -108,71 +89,22 @@ fn prune(
     h: Header,
     k: u32,
     mark: u32,
-    granthead: &[u32],
-    grantnext: &[u32],
-    banhead: &[u32],
-    bannext: &[u32],
+    grantindex: &[u32],
+    banindex: &[u32],
     list: &mut [u32],
 ) -> u32
-    requires { ⌜ AtOffice (now sheet) (now edges) h k mark × BothArranged (now sheet) (now edges) h mark (now granthead) (now grantnext) (now banhead) (now bannext) × (length (now list) ≡ maxEdges) ⌝ }
+    requires { ⌜ AtOffice (now sheet) (now edges) h k mark × BothArranged (now sheet) (now edges) h mark (now grantindex) (now banindex) × (length (now list) ≡ maxEdges) ⌝ }
     ensures { λ r. ⌜ Finds (RedundantAre (now (sheet .entry)) (suc k)) (now (list .exit)) r ⌝ }
 {
     let rows = h.edges;
     let mut n: u32 = 0;
     let mut j: u32 = 0;
     while j < rows {
-        let good = is_redundant(
-            sheet,
-            edges,
-            h,
-            k,
-            mark,
-            granthead,
-            grantnext,
-            banhead,
-            bannext,
-            j,
-        );
+        let good = is_redundant(sheet, edges, h, k, mark, grantindex, banindex, j);
         n = reach::put(list, n, good, j);
         j += 1;
     }
     n
-}
-
-// The rows that are redundant at office k + 1, rising, once the grants' arcs are in order.
-fn redundant_past(
-    sheet: &[u32],
-    edges: &[u32],
-    h: Header,
-    k: u32,
-    mark: u32,
-    granthead: &[u32],
-    grantnext: &[u32],
-    list: &mut [u32],
-) -> u32
-    requires { ⌜ AtOffice (now sheet) (now edges) h k mark × Arranged (now sheet) (now edges) h (record { mark = mark; right = 3; deed = 0 }) false (now granthead) (now grantnext) × (length (now list) ≡ maxEdges) ⌝ }
-    ensures { λ r. ⌜ Finds (RedundantAre (now (sheet .entry)) (suc k)) (now (list .exit)) r ⌝ }
-{
-    let bans = Walk {
-        mark: mark,
-        right: 4,
-        deed: 0,
-    };
-    let mut head = [0u32; ROWS];
-    let mut next = [0u32; LIST];
-    walk::arrange(sheet, edges, h, bans, false, &mut head, &mut next);
-    prune(
-        sheet,
-        edges,
-        h,
-        k,
-        mark,
-        granthead,
-        grantnext,
-        &head,
-        &next,
-        list,
-    )
 }
 
 // Question 10 at office k + 1: the rows that are redundant, rising.
@@ -187,13 +119,7 @@ pub fn redundant_rows(
     requires { ⌜ AtOffice (now sheet) (now edges) h k mark × (length (now list) ≡ maxEdges) ⌝ }
     ensures { λ r. ⌜ Finds (RedundantAre (now (sheet .entry)) (suc k)) (now (list .exit)) r ⌝ }
 {
-    let grants = Walk {
-        mark: mark,
-        right: 3,
-        deed: 0,
-    };
-    let mut head = [0u32; ROWS];
-    let mut next = [0u32; LIST];
-    walk::arrange(sheet, edges, h, grants, false, &mut head, &mut next);
-    redundant_past(sheet, edges, h, k, mark, &head, &next, list)
+    let grantindex = walk::arranged(sheet, edges, h, walk::walk_of(mark, 3, 0));
+    let banindex = walk::arranged(sheet, edges, h, walk::walk_of(mark, 4, 0));
+    prune(sheet, edges, h, k, mark, &grantindex, &banindex, list)
 }

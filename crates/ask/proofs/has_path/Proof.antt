@@ -1,6 +1,5 @@
 -- `ask::has_path` meets its contract: the number of steps from the person's row to the folio's is 0 exactly where no path leads there.
 -- Assumes nothing.
-use mathlib.Core.Bool.{true}
 use mathlib.Core.Path.{_≡_, refl, ap, subst}
 use native.Mathlib.Omega.{arith}
 use borrow.Author.Needs.{needs}
@@ -8,7 +7,7 @@ use Rattle.ask.proofs.Deciding.{reach-says, walk-is}
 use Rattle.sheet.proofs.Forming.{nodes-same}
 use Rattle.question.specs.Asked.{sideOf}
 use Rattle.paths.specs.Steps.{Layers}
-use Rattle.walk.specs.Arcs.{Steps}
+use Rattle.walk.specs.Arcs.{Steps, reversed}
 use Rattle.walk.specs.declared.Walk.{Walk}
 use Rattle.ask.proofs.has_path.Statement.{statement}
 use Rattle.ask.proofs.has_path.Tie as tie
@@ -31,7 +30,7 @@ returns : tie.Need-returns
 returns c = let S = c .before .before .before .before in
     let w = walk-is (c .before .walk-for .result) (S .args .k) (S .args .mark) (S .args .kind) (S .args .q .deed) (c .before .walk-for .ensures) (S .pre .0 .mark-is) in
     reach-says (S .args .sheet .now) (S .args .edges .now) (S .args .h) (S .pre .0 .formed) (S .args .k) (sideOf (S .args .kind)) (S .args .q) (S .args .rp) (S .args .rf) (S .pre .1) (c .measured .result)
-    (subst (λ (x : Walk). Layers (Steps (S .args .sheet .now) (S .args .edges .now) x true (S .args .h .edges)) (λ y. y ≡ S .args .rf) (c .measured .result)) w (c .measured .ensures .1)) _ refl
+    (subst (λ (x : Walk). Layers (Steps (S .args .sheet .now) (S .args .edges .now) (reversed x) (S .args .h .edges)) (λ y. y ≡ S .args .rf) (c .measured .result)) w (c .measured .ensures .1)) _ refl
 
 pub has-path-spec : {M : Type 1} → statement M
 has-path-spec =

@@ -7,8 +7,11 @@ use Rattle.ask.proofs.walk_for.Tie as tie
 right-of-requires : tie.Need-right-of-requires
 right-of-requires c κs = search needs
 
+walk-of-requires : tie.Need-walk-of-requires
+walk-of-requires c κs = search needs
+
 returns : tie.Need-returns
-returns c = rw (c .right-of .ensures)
+returns c = rw (c .walk-of .ensures, c .before .right-of .ensures)
 
 pub walk-for-spec : {M : Type 1} → statement M
-walk-for-spec = tie.close (tie.spec right-of-requires returns)
+walk-for-spec = tie.close (tie.spec right-of-requires walk-of-requires returns)

@@ -1,13 +1,15 @@
 -- `lists::folios_unreached` meets its contract: the folios that the walk from all persons does not number are those out of reach.
 -- Assumes nothing.
 use Rattle.lists.proofs.Unreached.{unreached-found}
-use mathlib.Core.Path.{refl}
 use borrow.Author.Needs.{needs}
 use Rattle.lists.proofs.folios_unreached.Statement.{statement}
 use Rattle.lists.proofs.folios_unreached.Tie as tie
 
+walk-of-requires : tie.Need-walk-of-requires
+walk-of-requires c κs = search needs
+
 persons-lead-requires : tie.Need-persons-lead-requires
-persons-lead-requires c κs = search needs
+persons-lead-requires c κs = let S = c .before .before .before .before .pre .0 in (S .formed, rw (c .walk-of .ensures) (S .mark-some))
 
 numbers-of-requires : tie.Need-numbers-of-requires
 numbers-of-requires c κs = search needs
@@ -17,13 +19,14 @@ same-length c = search needs
 
 returns : tie.Need-returns
 returns c =
-    let S = c .before .before .before .before .before .before .before .before in
-    unreached-found _ _ _ _ _ (S .pre .0) _ refl _ (c .before .before .before .before .persons-lead .ensures) (c .before .before .numbers-of .ensures)
+    let S = c .before .before .before .before .before .before .before .before .before in
+    unreached-found _ _ _ _ _ (S .pre .0) _ (c .before .before .before .before .before .walk-of .ensures) _ (c .before .before .before .before .persons-lead .ensures) (c .before .before .numbers-of .ensures)
 
 pub folios-unreached-spec : {M : Type 1} → statement M
 folios-unreached-spec =
     tie.close
     (tie.spec
+    walk-of-requires
     persons-lead-requires
     numbers-of-requires
     same-length

@@ -22,7 +22,7 @@ array-read-result : tie.Need-array-read-result
 array-read-result c = search needs
 
 returns-2 : tie.Need-returns-2
-returns-2 c = λ e. c .person-reach .ensures .each _ (c .before .before .before .before .before .before .before .before .pre .4)
+returns-2 c = λ e. c .person-reach .ensures .each _ (c .before .before .before .before .before .before .before .pre .4)
 
 pub person-reaches-spec : {M : Type 1} → statement M
 person-reaches-spec =

@@ -21,7 +21,7 @@ abbrev μ-loop : tie.MeasureT-loop
 μ-loop sheet starts₀ n i₀ starts i = n - i
 
 loop-holds : tie.Need-loop-holds Inv-loop μ-loop
-loop-holds c = (search needs, starts-none _ _ blank-all)
+loop-holds c = (search needs, starts-none _ _ (blank-all _))
 
 cast-at : tie.Need-cast-at Inv-loop μ-loop
 cast-at c = search needs

@@ -19,7 +19,7 @@ returns : tie.Need-returns
 returns c =
     let L = c .before .layers in
     let D = c .before .before .before .person-starts .ensures in
-    persons-lead _ _ _ _ _ _ (L .kept .1 .1 .1 .1 .1 .0 ∙ D .long) D (L .ensures)
+    persons-lead _ _ _ _ _ _ (L .kept .1 .1 .1 .1 .0 ∙ D .long) D (L .ensures)
 
 pub persons-lead-spec : {M : Type 1} → statement M
 persons-lead-spec =

@@ -13,10 +13,10 @@ use Rattle.lists.proofs.persons_reaching.Statement.{statement}
 use Rattle.lists.proofs.persons_reaching.Tie as tie
 
 abbrev Inv-loop : tie.InvT-loop
-Inv-loop sheet edges h w head next to m₀ n i₀ m i = (i ≤ n) × (length m ≡ maxNodes) × ((j : ℕ) → j < i → nodeAt sheet j .class ≡ 1 → Tells (getD m j 0) (LeadsTo sheet edges h w j to))
+Inv-loop sheet edges h w index to m₀ n i₀ m i = (i ≤ n) × (length m ≡ maxNodes) × ((j : ℕ) → j < i → nodeAt sheet j .class ≡ 1 → Tells (getD m j 0) (LeadsTo sheet edges h w j to))
 
 abbrev μ-loop : tie.MeasureT-loop
-μ-loop sheet edges h w head next to m₀ n i₀ m i = n - i
+μ-loop sheet edges h w index to m₀ n i₀ m i = n - i
 
 loop-holds : tie.Need-loop-holds Inv-loop μ-loop
 loop-holds c = (search needs, refl, λ j l. absurd (omega arith))
@@ -26,7 +26,7 @@ cast-at c = search needs
 
 person-reaches-requires : tie.Need-person-reaches-requires Inv-loop μ-loop
 person-reaches-requires c κs =
-    let S = c .before .before .before .before .before .before in
+    let S = c .before .before .before .before .before in
     (S .pre .0, S .pre .1, S .pre .2, c .loop-test .taken, S .pre .3)
 
 mul-m : tie.Need-mul-m Inv-loop μ-loop
@@ -44,7 +44,7 @@ loop-less c = omega arith
 loop-again : tie.Need-loop-again Inv-loop μ-loop
 loop-again c =
     let L = c .before .before .loop in
-    let S = c .before .before .before .before .before .before .before in (
+    let S = c .before .before .before .before .before .before in (
       omega arith,
       length-set {A = ℕ} (L .m) (L .i) (c .person-reaches .result) ∙ L .inv .1,
       tells-more (λ j. LeadsTo (S .args .sheet .now) (S .args .edges .now) (S .args .h) (S .args .w) j (S .args .to)) (λ j. nodeAt (S .args .sheet .now) j .class ≡ 1) (L .m) (L .i) (c .person-reaches .result) (omega (arith, L .inv .1, c .before .loop-test .taken, S .pre .0 .nodes .header .nodes)) (L .inv .2) (c .person-reaches .ensures),
