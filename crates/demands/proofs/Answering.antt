@@ -14,10 +14,13 @@ use Rattle.meaning.specs.Paths.{Side, grant, ban, HasPath}
 use Rattle.meaning.specs.Answers.{Says, answered as number-of, AnswerIs, gives, told, other, JointIs}
 use Rattle.meaning.specs.Source.{Authorised, Prior, Yields, Applicable}
 use Rattle.meaning.proofs.Axioms.{a1-a2, says}
-use Rattle.meaning.proofs.Offices.{grant-first, deny-first, first-applicable}
+use Rattle.meaning.specs.Deciding.{SideFirst, FirstApplies}
+use Rattle.meaning.proofs.Offices.{grant-first, deny-first, first-applicable, first-decides, order-decides}
 use Rattle.question.specs.declared.Answer.{Answer}
 use Rattle.question.specs.Replies.{Replies, refused, answered, Shows, missing, short, written}
 use Rattle.tables.specs.Count.{numberOf}
+use Rattle.files.specs.Bytes.{bytesOf}
+use Rattle.counter.specs.Filed.{InBytes, in-bytes}
 use Rattle.joint.proofs.Demand.{read-front}
 use Rattle.demands.specs.Demands.{front}
 
@@ -56,6 +59,18 @@ module _ (at : ℕ → View) (n p d f rule v c : ℕ) (x : JointIs at n rule p d
   pub by-order : rule ≡ 3 → (side : Side) → (gives side v ≡ true) ↔ Applicable at n side p d f
   by-order e = first-applicable at n p d f (record { answer = v; office = c }) (subst (λ (r : ℕ). JointIs at n r p d f (record { answer = v; office = c })) e x)
 
+  -- with the office that decides
+  pub side-decides : (side : Side) → rule ≡ told side → SideFirst at n p d f side (record { answer = v; office = c })
+  side-decides side e = first-decides at n p d f (record { answer = v; office = c }) side (subst (λ (r : ℕ). JointIs at n r p d f (record { answer = v; office = c })) e x)
+
+  pub first-decided : rule ≡ 3 → FirstApplies at n p d f (record { answer = v; office = c })
+  first-decided e = order-decides at n p d f (record { answer = v; office = c }) (subst (λ (r : ℕ). JointIs at n r p d f (record { answer = v; office = c })) e x)
+
+-- 0 for no
+pub no-is : (b : Bool) (v : ℕ) → v ≡ numberOf b → (v ≡ 0) ↔ ((b ≡ true) → ⊥)
+no-is true v e = (λ x. absurd (omega (arith, x, e)), λ h. absurd (h refl))
+no-is false v e = (λ x y. true≢false (sym y), λ h. e)
+
 -- 1 for yes
 pub yes-is : (b : Bool) (v : ℕ) → v ≡ numberOf b → (v ≡ 1) ↔ (b ≡ true)
 yes-is true v e = (λ x. refl, λ x. e)
@@ -78,3 +93,16 @@ module _ (refusal : Refusal) (R : List ℕ → Type 0) (out : List ℕ) where
   missing-only z (missing y n) = (λ e. n, λ u. refl)
   missing-only z (short ws y x l) = (λ e. absurd (omega (arith, e)), λ u. absurd (u ws x))
   missing-only z (written ws y x l) = (λ e. absurd (omega (arith, e)), λ u. absurd (u ws x))
+
+-- ---- a list shown in bytes
+
+-- what holds of every such list holds of the one whose bytes they are
+pub in-bytes-of : (P Q : List ℕ → Type 0) → ((ws : List ℕ) → P ws → Q ws) → (bs : List ℕ) → InBytes P bs → InBytes Q bs
+in-bytes-of P Q f bs (in-bytes ws x) = in-bytes ws (f ws x)
+
+-- there are such bytes exactly where there is such a list
+pub none-in-bytes : (P : List ℕ → Type 0) → ((bs : List ℕ) → InBytes P bs → ⊥) ↔ ((ws : List ℕ) → P ws → ⊥)
+none-in-bytes P = (λ h ws x. h (bytesOf ws) (in-bytes ws x), λ h bs. back h bs)
+  where
+    back : ((ws : List ℕ) → P ws → ⊥) → (bs : List ℕ) → InBytes P bs → ⊥
+    back h bs (in-bytes ws x) = h ws x

@@ -42,7 +42,7 @@ use Rattle.joint.proofs.Demand.{no-two-pairs, joins-again, asked-combined}
 use Rattle.demands.specs.Demands.{Demand1, Demand2, Demand3, Sheet, Union, JointSheet, PathOf, OfWords}
 use Rattle.demands.proofs.Keeping.{sheet-says, lookup-says, file-says, joins-keep, files-keep, shows-keep}
 use Rattle.demands.proofs.Least.{none-first, none-least}
-use Rattle.demands.proofs.Answering.{told-is, four, gives-exactly, by-priority, by-order, yes-is, front-is, missing-only}
+use Rattle.demands.proofs.Answering.{told-is, four, gives-exactly, by-priority, by-order, side-decides, first-decided, no-is, yes-is, front-is, missing-only, in-bytes-of, none-in-bytes}
 
 -- a row has words
 row-some : (s : List ℕ) (i : ℕ) → Accepted s → i < headerOf s .nodes → take nodeWords (drop (edgesFrom i) s) ≡ [] → ⊥
@@ -95,16 +95,23 @@ demand-1 = record {
 
 pub demand-2 : Demand2
 demand-2 = record {
-  answers = λ s q x z.
+  answers = λ after s q x z.
       let p = told-is _ _ x z .0 in
       (four (seenAt s (q .office)) (q .person) (q .deed) (q .folio) _ p, gives-exactly (seenAt s (q .office)) (q .person) (q .deed) (q .folio) _ p);
-  priority = λ s q x z. by-priority (seenAt s) (officesOf s) (q .person) (q .deed) (q .folio) (q .rule) _ _ (told-is _ _ x z);
-  applicable = λ s q x z. by-order (seenAt s) (officesOf s) (q .person) (q .deed) (q .folio) (q .rule) _ _ (told-is _ _ x z);
+  side-first = λ after s q x z. side-decides (seenAt s) (officesOf s) (q .person) (q .deed) (q .folio) (q .rule) _ _ (told-is _ _ x z);
+  order-first = λ after s q x z. first-decided (seenAt s) (officesOf s) (q .person) (q .deed) (q .folio) (q .rule) _ _ (told-is _ _ x z);
+  priority = λ after s q x z. by-priority (seenAt s) (officesOf s) (q .person) (q .deed) (q .folio) (q .rule) _ _ (told-is _ _ x z);
+  applicable = λ after s q x z. by-order (seenAt s) (officesOf s) (q .person) (q .deed) (q .folio) (q .rule) _ _ (told-is _ _ x z);
   shortest = λ s q out x z. let w = front-is _ _ out x z in (w .holds, w .first);
   refused-only = λ s q out x z.
       let w = missing-only _ _ out z x in
       (λ e. none-first (PathOf s q) (w .0 e), λ u. w .1 (λ ws y. u ws (y .holds)));
-  is-path = λ s q list x z. yes-is _ _ (told-is _ _ x z .0);
+  shortest-bytes = λ f q out x z. in-bytes-of (WitnessOf (wordsOf f) q) _ (λ ws w. (w .holds, w .first)) _ (front-is _ _ out x z);
+  refused-only-bytes = λ f q out x z.
+      let w = missing-only _ _ out z x in
+      let n = none-in-bytes (WitnessOf (wordsOf f) q) in
+      (λ e. none-first (PathOf (wordsOf f) q) (n .0 (w .0 e)), λ u. w .1 (n .1 (λ ws y. u ws (y .holds))));
+  is-path = λ s q list x z. (yes-is _ _ (told-is _ _ x z .0), no-is _ _ (told-is _ _ x z .0));
   persons = λ s q out x. front-is _ _ out x;
   holders = λ s q out x. front-is _ _ out x;
   unreached = λ s q out x. front-is _ _ out x;

@@ -17,7 +17,8 @@ use Rattle.sheet.specs.Rows.{headerOf}
 use Rattle.sheet.specs.Accepted.{Accepted}
 use Rattle.sheet.specs.Named.{tablesOf, seenAt}
 use Rattle.meaning.specs.Paths.{Side, isPath}
-use Rattle.meaning.specs.Answers.{gives, told, other, jointly}
+use Rattle.meaning.specs.Answers.{gives, told, other, Joint as JointAnswer, jointly}
+use Rattle.meaning.specs.Deciding.{SideFirst, FirstApplies}
 use Rattle.meaning.specs.Forms.{fewer}
 use Rattle.meaning.specs.Questions.{PersonsAre, HoldersAre, UnreachedAre, BothAt, LeastBothIs, HoldsBoth, LeastPairIs, RedundantAre}
 use Rattle.meaning.specs.Join.{officesOf, IsJoin, IsTaken}
@@ -121,20 +122,31 @@ pub record Demand1 : Type 0 where
 abbrev pub front : Answer → List ℕ → List ℕ
 front a out = take (a .count) out
 
+-- what an answer tells of all offices: its value, and the office that decides in its count
+abbrev pub jointIn : Answer → JointAnswer
+jointIn a = record { answer = a .value; office = a .count }
+
 -- words are a grant or ban path as the question names it, at the office asked
 abbrev pub PathOf : List ℕ → Question → List ℕ → Type 0
 PathOf s q ws = isPath (seenAt s (q .office)) (sideOf (q .kind)) (q .person) (q .deed) (q .folio) ws ≡ true
 
 pub record Demand2 : Type 0 where
+  -- of words or, by the counter, of a file's bytes: `after` is what is refused before the question's own refusal
   -- granted, banned, both or undetermined: an office grants exactly where (a1) has it, and bans exactly where (a2) does
-  pub answers : (s : List ℕ) (q : Question) {a : Answer} → AnswersAtOffice (afterSheet s) s q a → a .number ≡ 0
+  pub answers : (after : ℕ → Refusal) (s : List ℕ) (q : Question) {a : Answer} → AnswersAtOffice after s q a → a .number ≡ 0
       → (a .value < 4) × ((side : Side) → (gives side (a .value) ≡ true) ↔ Authorised (seenAt s (q .office)) side (q .person) (q .deed) (q .folio))
-  -- Definition 34: grant-first (rule 1) and deny-first (rule 2) tell their side where some office has it, and the other where some office has that and none the first
-  pub priority : (s : List ℕ) (q : Question) {a : Answer} → AnswersJointly (afterSheet s) s q a → a .number ≡ 0 → (side : Side) → q .rule ≡ told side
+  -- grant-first (rule 1) and deny-first (rule 2): their side where some office has it, else the other where some office has that, else undetermined; decided by the lowest office that has it, 0 where undetermined
+  pub side-first : (after : ℕ → Refusal) (s : List ℕ) (q : Question) {a : Answer} → AnswersJointly after s q a → a .number ≡ 0 → (side : Side) → q .rule ≡ told side
+      → SideFirst (seenAt s) (officesOf s) (q .person) (q .deed) (q .folio) side (jointIn a)
+  -- first-applicable (rule 3): the answer of the lowest office that isn't undetermined, Both included, and that office; else undetermined, by office 0
+  pub order-first : (after : ℕ → Refusal) (s : List ℕ) (q : Question) {a : Answer} → AnswersJointly after s q a → a .number ≡ 0 → q .rule ≡ 3
+      → FirstApplies (seenAt s) (officesOf s) (q .person) (q .deed) (q .folio) (jointIn a)
+  -- the same in the source's own relations, Definition 34: priority to a side ..
+  pub priority : (after : ℕ → Refusal) (s : List ℕ) (q : Question) {a : Answer} → AnswersJointly after s q a → a .number ≡ 0 → (side : Side) → q .rule ≡ told side
       → ((a .value ≡ told side) ↔ Prior (seenAt s) (officesOf s) side (q .person) (q .deed) (q .folio))
       × ((a .value ≡ told (other side)) ↔ Yields (seenAt s) (officesOf s) side (q .person) (q .deed) (q .folio))
-  -- Definition 34, first-applicable
-  pub applicable : (s : List ℕ) (q : Question) {a : Answer} → AnswersJointly (afterSheet s) s q a → a .number ≡ 0 → q .rule ≡ 3
+  -- .. and first-applicable
+  pub applicable : (after : ℕ → Refusal) (s : List ℕ) (q : Question) {a : Answer} → AnswersJointly after s q a → a .number ≡ 0 → q .rule ≡ 3
       → (side : Side) → (gives side (a .value) ≡ true) ↔ Applicable (seenAt s) (officesOf s) side (q .person) (q .deed) (q .folio)
   -- the path shown is one, and none has fewer nodes, or as many and comes before it in dictionary order
   pub shortest : (s : List ℕ) (q : Question) (out : List ℕ) {a : Answer} {out′ : List ℕ} → Witnesses s q out a out′ → a .number ≡ 0
@@ -142,7 +154,14 @@ pub record Demand2 : Type 0 where
   -- a path is refused only where there is none, and there it is
   pub refused-only : (s : List ℕ) (q : Question) (out : List ℕ) {a : Answer} {out′ : List ℕ} → Witnesses s q out a out′ → afterSheet s (askFault s q) .number ≡ 0
       → (a .number ≡ 26) ↔ ((ws : List ℕ) → PathOf s q ws → ⊥)
-  pub is-path : (s : List ℕ) (q : Question) (list : List ℕ) {a : Answer} → TellsPath s q list a → a .number ≡ 0 → (a .value ≡ 1) ↔ PathOf s q list
+  -- the same by the counter: the bytes of such a path, of the file's words
+  pub shortest-bytes : (f : List ℕ) (q : Question) (out : List ℕ) {a : Answer} {out′ : List ℕ} → Shows (afterFile f (askFault (wordsOf f) q)) (InBytes (WitnessOf (wordsOf f) q)) out a out′ → a .number ≡ 0
+      → InBytes (λ xs. PathOf (wordsOf f) q xs × ((ws : List ℕ) → PathOf (wordsOf f) q ws → fewer ws xs ≡ false)) (front a out′)
+  pub refused-only-bytes : (f : List ℕ) (q : Question) (out : List ℕ) {a : Answer} {out′ : List ℕ} → Shows (afterFile f (askFault (wordsOf f) q)) (InBytes (WitnessOf (wordsOf f) q)) out a out′
+      → afterFile f (askFault (wordsOf f) q) .number ≡ 0 → (a .number ≡ 26) ↔ ((ws : List ℕ) → PathOf (wordsOf f) q ws → ⊥)
+  -- yes is 1 and no is 0
+  pub is-path : (s : List ℕ) (q : Question) (list : List ℕ) {a : Answer} → TellsPath s q list a → a .number ≡ 0
+      → ((a .value ≡ 1) ↔ PathOf s q list) × ((a .value ≡ 0) ↔ (PathOf s q list → ⊥))
   -- the lists are exactly these, rising
   pub persons : (s : List ℕ) (q : Question) (out : List ℕ) {a : Answer} {out′ : List ℕ} → ListsPersons s q out a out′ → a .number ≡ 0 → PersonsAre (seenAt s (q .office)) (q .category) (front a out′)
   pub holders : (s : List ℕ) (q : Question) (out : List ℕ) {a : Answer} {out′ : List ℕ} → ListsHolders s q out a out′ → a .number ≡ 0 → HoldersAre (seenAt s (q .office)) (q .deed) (q .folio) (front a out′)
