@@ -1,7 +1,7 @@
 -- `ask::joint_answer` meets its contract: what is asked of a sheet that passed the check, after the check.
 -- Assumes nothing.
 use borrow.Author.Needs.{needs}
-use Rattle.sheet.proofs.Forming.{passed-long, passed-header, passed-whole}
+use Rattle.sheet.proofs.Forming.{same-words, passed-long, passed-header, passed-whole}
 use Rattle.question.proofs.Telling.{reply-bad, reply-good}
 use Rattle.ask.proofs.joint_answer.Statement.{statement}
 use Rattle.ask.proofs.joint_answer.Tie as tie
@@ -22,7 +22,7 @@ edge-table-requires : tie.Need-edge-table-requires
 edge-table-requires c κs = passed-header _ _ _ (c .before .before .before .check .ensures) (c .before .if1 .left) _ (c .header-of .ensures)
 
 joint-checked-requires : tie.Need-joint-checked-requires
-joint-checked-requires c κs = passed-whole _ _ _ (c .before .before .before .before .check .ensures) (c .before .before .if1 .left) _ (c .before .header-of .ensures) _ (c .edge-table .ensures)
+joint-checked-requires c κs = passed-whole _ _ _ (c .before .before .before .before .check .ensures) (c .before .before .if1 .left) _ (c .before .header-of .ensures) _ (same-words _ _ (c .edge-table .ensures))
 
 returns-2 : tie.Need-returns-2
 returns-2 c = reply-good _ _ _ _ _ (c .before .before .before .before .before .check .ensures) (c .before .before .before .if1 .left) (c .joint-checked .ensures)

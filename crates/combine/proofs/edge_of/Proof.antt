@@ -5,6 +5,7 @@ use mathlib.Core.List.{List}
 use Prim.Native.Nat.{ℕ}
 use Rattle.sheet.specs.Accepted.{EdgeRoom}
 use Rattle.sheet.specs.Rows.{edgeAt}
+use Rattle.sheet.proofs.Forming.{same-words}
 use borrow.Author.Needs.{needs}
 use Rattle.combine.proofs.edge_of.Statement.{statement}
 use Rattle.combine.proofs.edge_of.Tie as tie
@@ -14,10 +15,10 @@ edge-table-requires c κs = search needs
 
 edge-at-requires : tie.Need-edge-at-requires
 edge-at-requires c κs = let s = c .before .before in
-    (subst (EdgeRoom (s .args .h)) (sym (c .edge-table .ensures)) (s .pre .0 .edges .room), s .pre .1)
+    (subst (EdgeRoom (s .args .h)) (sym (same-words _ _ (c .edge-table .ensures))) (s .pre .0 .edges .room), s .pre .1)
 
 returns : tie.Need-returns
-returns c = c .edge-at .ensures ∙ ap (λ (t : List ℕ). edgeAt t (c .before .before .before .args .j)) (c .before .edge-table .ensures)
+returns c = c .edge-at .ensures ∙ ap (λ (t : List ℕ). edgeAt t (c .before .before .before .args .j)) (same-words _ _ (c .before .edge-table .ensures))
 
 pub edge-of-spec : {M : Type 1} → statement M
 edge-of-spec = tie.close (tie.spec edge-table-requires edge-at-requires returns)

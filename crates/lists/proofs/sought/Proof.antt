@@ -2,7 +2,7 @@
 -- Assumes nothing.
 use mathlib.Core.Path.{refl}
 use borrow.Author.Needs.{needs}
-use Rattle.sheet.proofs.Forming.{passed-long, passed-header, passed-whole}
+use Rattle.sheet.proofs.Forming.{same-words, passed-long, passed-header, passed-whole}
 use Rattle.question.proofs.Telling.{show-bad, show-good}
 use Rattle.lists.proofs.sought.Statement.{statement}
 use Rattle.lists.proofs.sought.Tie as tie
@@ -23,7 +23,7 @@ edge-table-requires : tie.Need-edge-table-requires
 edge-table-requires c κs = passed-header _ _ _ (c .before .before .before .check .ensures) (c .before .if1 .left) _ (c .header-of .ensures)
 
 sought-checked-requires : tie.Need-sought-checked-requires
-sought-checked-requires c κs = passed-whole _ _ _ (c .before .before .before .before .before .check .ensures) (c .before .before .before .if1 .left) _ (c .before .before .header-of .ensures) _ (c .before .edge-table .ensures)
+sought-checked-requires c κs = passed-whole _ _ _ (c .before .before .before .before .before .check .ensures) (c .before .before .before .if1 .left) _ (c .before .before .header-of .ensures) _ (same-words _ _ (c .before .edge-table .ensures))
 
 same-length : tie.Need-same-length
 same-length c = search needs
