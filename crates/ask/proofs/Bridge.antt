@@ -10,9 +10,10 @@ use lib.Dec.{eqb}
 use lib.ListN.{length}
 use borrow.Author.Tests.{eqb-true}
 use Rattle.tables.specs.Office.{View}
+use Rattle.sheet.specs.declared.Seat.{Seat}
 use Rattle.sheet.specs.Rows.{headerOf, nodeAt, edgeTable, nodeKeyAt}
 use Rattle.sheet.specs.Accepted.{Accepted}
-use Rattle.sheet.specs.Named.{seenAt}
+use Rattle.sheet.specs.Seats.{seenFrom}
 use Rattle.paths.specs.Leads.{among, leads, Reach, here, more}
 use Rattle.paths.specs.Best.{Trail, ends, goes}
 use Rattle.paths.proofs.Tests.{and-left, and-right, both, or-cases, either}
@@ -31,12 +32,12 @@ named s i t n v rows e =
     let b : nodeAt s i .variant ≡ v = cc in
     rw (a, b)
 
-module _ (s : List ℕ) (acc : Accepted s) (k : ℕ) (side : Side) (d : ℕ) (some : d ≡ 0 → ⊥) (rf f : ℕ) (inside : rf < headerOf s .nodes) (is-folio : nodeKeyAt s rf ≡ folio f) where
+module _ (s : List ℕ) (acc : Accepted s) (seat : Seat) (side : Side) (d : ℕ) (some : d ≡ 0 → ⊥) (rf f : ℕ) (inside : rf < headerOf s .nodes) (is-folio : nodeKeyAt s rf ≡ folio f) where
   abbrev g : View
-  g = seenAt s (suc k)
+  g = seenFrom s seat
 
   abbrev Arcs : ℕ → ℕ → Type 0
-  Arcs = Steps s (edgeTable s) (walkFor k side d) (headerOf s .edges)
+  Arcs = Steps s (edgeTable s) (walkFor seat side d) (headerOf s .edges)
 
   abbrev Goal : ℕ → Type 0
   Goal x = x ≡ rf
@@ -63,9 +64,9 @@ module _ (s : List ℕ) (acc : Accepted s) (k : ℕ) (side : Side) (d : ℕ) (so
       let q : folio f′ ≡ folio f = sym e ∙ ap (nodeKeyAt s) t ∙ is-folio in
       let z : f′ ≡ f = cc in
       (z, named s x 4 f 0 [] (e ∙ ap (λ (y : ℕ). folio y) z))
-  folio-ends x f′ rows e (goes {b = b} st w) = absurd (never (link-of s acc k side d some x b st))
+  folio-ends x f′ rows e (goes {b = b} st w) = absurd (never (link-of s acc seat side d some x b st))
     where
-      never : Link s acc k side d x b → ⊥
+      never : Link s acc seat side d x b → ⊥
       never (joins p c u v m) = let z : _≡_ {A = ℕ} 1 4 = cc in omega arith
       never (climbs c c′ u v m) = let z : _≡_ {A = ℕ} 2 4 = cc in omega arith
       never (gives-right c v u w m) = let z : _≡_ {A = ℕ} 2 4 = cc in omega arith
@@ -73,9 +74,9 @@ module _ (s : List ℕ) (acc : Accepted s) (k : ℕ) (side : Side) (d : ℕ) (so
 
   deed-ends : (x v : ℕ) (rows : List ℕ) → nodeKeyAt s x ≡ deed d v → Trail Arcs Goal x rows → (applies g d v f ≡ true) × (nodeWords s rows ≡ d ∷ v ∷ f ∷ 0 ∷ [])
   deed-ends x v rows e (ends t) = absurd (let q : deed d v ≡ folio f = sym e ∙ ap (nodeKeyAt s) t ∙ is-folio in let z : _≡_ {A = ℕ} 3 4 = cc in omega arith)
-  deed-ends x v rows e (goes {b = b} {l = l} st w) = by (link-of s acc k side d some x b st)
+  deed-ends x v rows e (goes {b = b} {l = l} st w) = by (link-of s acc seat side d some x b st)
     where
-      by : Link s acc k side d x b → (applies g d v f ≡ true) × (nodeWords s (x ∷ l) ≡ d ∷ v ∷ f ∷ 0 ∷ [])
+      by : Link s acc seat side d x b → (applies g d v f ≡ true) × (nodeWords s (x ∷ l) ≡ d ∷ v ∷ f ∷ 0 ∷ [])
       by (joins p c u y m) = absurd (let z : _≡_ {A = ℕ} 1 3 = cc in omega arith)
       by (climbs c c′ u y m) = absurd (let z : _≡_ {A = ℕ} 2 3 = cc in omega arith)
       by (gives-right c y u z m) = absurd (let z : _≡_ {A = ℕ} 2 3 = cc in omega arith)
@@ -89,9 +90,9 @@ module _ (s : List ℕ) (acc : Accepted s) (k : ℕ) (side : Side) (d : ℕ) (so
 
   pub trail-read : (x c : ℕ) (rows : List ℕ) → nodeKeyAt s x ≡ category c → Trail Arcs Goal x rows → Read c rows
   trail-read x c rows e (ends t) = absurd (let q : category c ≡ folio f = sym e ∙ ap (nodeKeyAt s) t ∙ is-folio in let z : _≡_ {A = ℕ} 2 4 = cc in omega arith)
-  trail-read x c rows e (goes {b = b} {l = l} st w) = by (link-of s acc k side d some x b st) (λ c′ e′. trail-read b c′ l e′ w)
+  trail-read x c rows e (goes {b = b} {l = l} st w) = by (link-of s acc seat side d some x b st) (λ c′ e′. trail-read b c′ l e′ w)
     where
-      by : Link s acc k side d x b → ((c′ : ℕ) → nodeKeyAt s b ≡ category c′ → Read c′ l) → Read c (x ∷ l)
+      by : Link s acc seat side d x b → ((c′ : ℕ) → nodeKeyAt s b ≡ category c′ → Read c′ l) → Read c (x ∷ l)
       by (joins p c′ u y m) later = absurd (let z : _≡_ {A = ℕ} 1 2 = cc in omega arith)
       by (climbs c′ c″ u y m) later =
           let a : c′ ≡ c = cc in
@@ -123,16 +124,16 @@ module _ (s : List ℕ) (acc : Accepted s) (k : ℕ) (side : Side) (d : ℕ) (so
   pub lay : (c : ℕ) (cs : List ℕ) (v x : ℕ) → Goes c cs v → x < headerOf s .nodes → nodeKeyAt s x ≡ category c → Laid x (c ∷ 0 ∷ tailWords cs v)
   unfolding nodeWords
   lay c [] v x w l e =
-      let a = right-arc s acc k side d x c v l e (and-left (right g side c d v) _ w) in
-      let b = applies-arc s acc k side d (a .row) d v f (a .inside) (a .names) (and-right (right g side c d v) _ w) in
-      let z : b .row ≡ rf = same-row s acc k side d (b .row) rf (folio f) (b .inside) inside (b .names) is-folio in
+      let a = right-arc s acc seat side d x c v l e (and-left (right g side c d v) _ w) in
+      let b = applies-arc s acc seat side d (a .row) d v f (a .inside) (a .names) (and-right (right g side c d v) _ w) in
+      let z : b .row ≡ rf = same-row s acc seat side d (b .row) rf (folio f) (b .inside) inside (b .names) is-folio in
       record {
         rows = x ∷ a .row ∷ b .row ∷ [];
         trail = goes (a .arc) (goes (b .arc) (ends z));
         words = named s x 2 c 0 (a .row ∷ b .row ∷ []) e ∙ ap (λ (q : List ℕ). c ∷ 0 ∷ q) (named s (a .row) 3 d v (b .row ∷ []) (a .names) ∙ ap (λ (q : List ℕ). d ∷ v ∷ q) (named s (b .row) 4 f 0 [] (b .names)));
       }
   lay c (b ∷ cs) v x w l e =
-      let a = step-arc s acc k side d x c b l e (w .0) in
+      let a = step-arc s acc seat side d x c b l e (w .0) in
       let r = lay b cs v (a .row) (w .1) (a .inside) (a .names) in
       record { rows = x ∷ r .rows; trail = goes (a .arc) (r .trail); words = named s x 2 c 0 (r .rows) e ∙ ap (λ (q : List ℕ). c ∷ 0 ∷ q) (r .words) }
 
@@ -149,9 +150,9 @@ module _ (s : List ℕ) (acc : Accepted s) (k : ℕ) (side : Side) (d : ℕ) (so
   pub person-read : (x p : ℕ) (rows : List ℕ) → nodeKeyAt s x ≡ person p → Trail Arcs Goal x rows → FromPerson p rows
   unfolding spell
   person-read x p rows e (ends t) = absurd (let q : person p ≡ folio f = sym e ∙ ap (nodeKeyAt s) t ∙ is-folio in let z : _≡_ {A = ℕ} 1 4 = cc in omega arith)
-  person-read x p rows e (goes {b = b} {l = l} st w) = by (link-of s acc k side d some x b st)
+  person-read x p rows e (goes {b = b} {l = l} st w) = by (link-of s acc seat side d some x b st)
     where
-      by : Link s acc k side d x b → FromPerson p (x ∷ l)
+      by : Link s acc seat side d x b → FromPerson p (x ∷ l)
       by (joins p′ c u y m) =
           let a : p′ ≡ p = cc in
           let r = trail-read b c l y w in
@@ -176,7 +177,7 @@ module _ (s : List ℕ) (acc : Accepted s) (k : ℕ) (side : Side) (d : ℕ) (so
   unfolding path spell nodeWords
   lay-path x p [] v l e q = absurd (false≢true q)
   lay-path x p (c ∷ cs) v l e q =
-      let a = member-arc s acc k side d x p c l e (and-left (member g p c) _ q) in
+      let a = member-arc s acc seat side d x p c l e (and-left (member g p c) _ q) in
       let r = lay c cs v (a .row) (leads-walk c cs v (and-right (member g p c) _ q)) (a .inside) (a .names) in
       record { rows = x ∷ r .rows; trail = goes (a .arc) (r .trail); words = named s x 1 p 0 (r .rows) e ∙ ap (λ (w : List ℕ). p ∷ 0 ∷ w) (r .words) }
 

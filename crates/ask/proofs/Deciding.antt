@@ -1,6 +1,6 @@
 -- What the numbers of a walk back from the folio decide: whether there is a path, and the witness.
 -- Assumes nothing.
-use Prim.Native.Nat.{ℕ, suc, _^_, _<_}
+use Prim.Native.Nat.{ℕ, suc, _<_}
 use native.Mathlib.Omega.{arith}
 use mathlib.Core.Path.{_≡_, refl, ap, subst, _∙_}
 use mathlib.Core.Bool.{Bool, true, false, not, true≢false, false≢true}
@@ -11,57 +11,58 @@ use lib.ListN.{getD}
 use borrow.Author.Tests.{eqb-true, eq-eqb}
 use Rattle.tables.specs.Key.{identity}
 use Rattle.sheet.specs.declared.Header.{Header}
+use Rattle.sheet.specs.declared.Seat.{Seat}
 use Rattle.sheet.specs.Rows.{headerOf, nodeAt, edgeTable}
 use Rattle.sheet.specs.Accepted.{WellFormed, Accepted}
 use Rattle.sheet.specs.Named.{nodeRow, seenAt}
+use Rattle.sheet.specs.Seats.{seenFrom}
 use Rattle.sheet.proofs.Forming.{words-of}
 use Rattle.sheet.proofs.Naming.{node-seen, ends-seen}
 use Rattle.paths.specs.Steps.{Layers}
 use Rattle.paths.proofs.Tests.{both}
 use Rattle.paths.proofs.Distances.{zero-or}
 use Rattle.paths.proofs.Trails.{listed, numbered}
-use Rattle.meaning.specs.Paths.{Side, rightKind, person, deed, folio, right, HasPath}
+use Rattle.meaning.specs.Paths.{Side, person, deed, folio, HasPath}
 use Rattle.meaning.specs.Answers.{Says}
 use Rattle.meaning.proofs.Axioms.{a1-a2}
-use Rattle.walk.specs.declared.Walk.{Walk}
-use Rattle.walk.specs.Arcs.{Steps, walkOf, reversed}
+use Rattle.walk.specs.Arcs.{Steps, reversed}
 use Rattle.walk.proofs.Walking.{turned-layers}
 use Rattle.question.specs.declared.Question.{Question}
 use Rattle.question.proofs.Known.{found-class}
-use Rattle.question.specs.Asked.{stands, known, sideOf}
+use Rattle.question.specs.Asked.{stands, known}
 use Rattle.ask.specs.Placed.{Placed}
 use Rattle.ask.proofs.Links.{walkFor}
 use Rattle.ask.proofs.Bridge.{trail-path, path-trail}
 use Rattle.tables.proofs.Counts.{some-at}
 
-module _ (s t : List ℕ) (h : Header) (f : WellFormed s t h) (k : ℕ) (side : Side) (q : Question) (rp rf : ℕ) (pl : Placed s q rp rf) (dist : List ℕ)
-    (y : Layers (Steps s t (reversed (walkFor k side (q .deed))) (h .edges)) (λ x. x ≡ rf) dist) where
+module _ (s t : List ℕ) (h : Header) (f : WellFormed s t h) (seat : Seat) (side : Side) (q : Question) (rp rf : ℕ) (pl : Placed s q rp rf) (dist : List ℕ)
+    (y : Layers (Steps s t (reversed (walkFor seat side (q .deed))) (h .edges)) (λ x. x ≡ rf) dist) where
   acc : Accepted s
   acc = words-of s t h f
 
   -- the numbers, over the words alone, as steps back
-  pub back-layers : Layers (λ a b. Steps s (edgeTable s) (walkFor k side (q .deed)) (headerOf s .edges) b a) (λ x. x ≡ rf) dist
+  pub back-layers : Layers (λ a b. Steps s (edgeTable s) (walkFor seat side (q .deed)) (headerOf s .edges) b a) (λ x. x ≡ rf) dist
   back-layers =
-      turned-layers s (edgeTable s) (walkFor k side (q .deed)) (headerOf s .edges) (λ x. x ≡ rf) dist
-      (subst (λ (x : Header). Layers (Steps s (edgeTable s) (reversed (walkFor k side (q .deed))) (x .edges)) (λ x. x ≡ rf) dist) (f .head)
-      (subst (λ (x : List ℕ). Layers (Steps s x (reversed (walkFor k side (q .deed))) (h .edges)) (λ x. x ≡ rf) dist) (f .table) y))
+      turned-layers s (edgeTable s) (walkFor seat side (q .deed)) (headerOf s .edges) (λ x. x ≡ rf) dist
+      (subst (λ (x : Header). Layers (Steps s (edgeTable s) (reversed (walkFor seat side (q .deed))) (x .edges)) (λ x. x ≡ rf) dist) (f .head)
+      (subst (λ (x : List ℕ). Layers (Steps s x (reversed (walkFor seat side (q .deed))) (h .edges)) (λ x. x ≡ rf) dist) (f .table) y))
 
-  pub reached-path : (getD dist rp 0 ≡ 0 → ⊥) → HasPath (seenAt s (suc k)) side (q .person) (q .deed) (q .folio)
+  pub reached-path : (getD dist rp 0 ≡ 0 → ⊥) → HasPath (seenFrom s seat) side (q .person) (q .deed) (q .folio)
   reached-path n = ⊎-elim (λ z. absurd (n z)) some (zero-or (getD dist rp 0))
     where
-      some : (m : ℕ) × (getD dist rp 0 ≡ suc m) → HasPath (seenAt s (suc k)) side (q .person) (q .deed) (q .folio)
+      some : (m : ℕ) × (getD dist rp 0 ≡ suc m) → HasPath (seenFrom s seat) side (q .person) (q .deed) (q .folio)
       some m =
           let l = listed _ _ (back-layers .sound rp (m .0) (m .1)) in
-          trail-path s acc k side (q .deed) (pl .deed-some) rf (q .folio) (pl .folio-in) (pl .folio-is) rp (q .person) (l .0) (pl .person-is) (l .1)
+          trail-path s acc seat side (q .deed) (pl .deed-some) rf (q .folio) (pl .folio-in) (pl .folio-is) rp (q .person) (l .0) (pl .person-is) (l .1)
 
-  pub path-reached : HasPath (seenAt s (suc k)) side (q .person) (q .deed) (q .folio) → getD dist rp 0 ≡ 0 → ⊥
+  pub path-reached : HasPath (seenFrom s seat) side (q .person) (q .deed) (q .folio) → getD dist rp 0 ≡ 0 → ⊥
   path-reached p z =
-      let l = path-trail s acc k side (q .deed) (pl .deed-some) rf (q .folio) (pl .folio-in) (pl .folio-is) rp (q .person) (p .words) (pl .person-in) (pl .person-is) (p .is) in
+      let l = path-trail s acc seat side (q .deed) (pl .deed-some) rf (q .folio) (pl .folio-in) (pl .folio-is) rp (q .person) (p .words) (pl .person-in) (pl .person-is) (p .is) in
       let n = numbered _ _ dist back-layers (l .trail) in
       let n0 = n .0 in
       omega arith
 
-  pub reach-says : (b : Bool) → b ≡ not (eqb (getD dist rp 0) 0) → Says b (HasPath (seenAt s (suc k)) side (q .person) (q .deed) (q .folio))
+  pub reach-says : (b : Bool) → b ≡ not (eqb (getD dist rp 0) 0) → Says b (HasPath (seenFrom s seat) side (q .person) (q .deed) (q .folio))
   reach-says true e = reached-path (λ z. true≢false (e ∙ ap not (eq-eqb (getD dist rp 0) 0 z)))
   reach-says false e = λ p. path-reached p (zero-is (eqb (getD dist rp 0) 0) refl)
     where
@@ -101,7 +102,3 @@ placed-by s acc any office q rp rd rf lp ld lf ep ed ef =
     let c0 = c .0 in
     let c1 = c .1 in
     record { person-in = lp; person-is = cc; folio-in = lf; folio-is = cc; deed-some = λ z. acc .nodes .fit rd ld .number (b .1 ∙ z) }
-
--- the walk that the code makes
-pub walk-is : (w : Walk) (k mark kind deed : ℕ) → w ≡ walkOf mark (rightKind (sideOf kind)) deed → mark ≡ 2 ^ k → w ≡ walkFor k (sideOf kind) deed
-walk-is w k mark kind deed e m = e ∙ ap (λ (x : ℕ). walkOf x (rightKind (sideOf kind)) deed) m

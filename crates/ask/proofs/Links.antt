@@ -1,6 +1,6 @@
 -- The bridge between the walk's rows and the meaning's identities: each arc of a right's walk is a relation that the office sees, and each relation an arc.
 -- Assumes nothing.
-use Prim.Native.Nat.{ℕ, zero, suc, _/_, _%_, _^_, _<_, _≤_}
+use Prim.Native.Nat.{ℕ, zero, suc, _<_, _≤_}
 use native.Mathlib.Omega.{arith}
 use mathlib.Core.Path.{_≡_, refl, sym, ap, subst, _∙_}
 use mathlib.Core.Bool.{Bool, true, false, not, _&&_, _||_, cond}
@@ -8,22 +8,23 @@ use mathlib.Core.List.{List}
 use lib.Dec.{eqb}
 use borrow.Author.Tests.{eqb-true, eq-eqb, ne-eqb}
 use Rattle.tables.specs.Key.{Key, identity, relation}
-use Rattle.tables.specs.Marks.{marked}
 use Rattle.tables.specs.Office.{View}
 use Rattle.tables.proofs.Keys.{one-row}
 use Rattle.sheet.specs.declared.Edge.{Edge}
+use Rattle.sheet.specs.declared.Seat.{Seat}
 use Rattle.sheet.specs.Rows.{headerOf, nodeAt, edgeAt, edgeTable, nodeKeyAt, endsFit}
 use Rattle.sheet.specs.Accepted.{Accepted}
-use Rattle.sheet.specs.Named.{edgeRow, seenAt}
+use Rattle.sheet.specs.Named.{edgeRow}
+use Rattle.sheet.specs.Seats.{countsAt, seenFrom}
 use Rattle.sheet.proofs.Naming.{edge-seen, seen-edge}
 use Rattle.paths.proofs.Tests.{and-left, and-right, both, or-left, or-right}
 use Rattle.meaning.specs.Paths.{Side, grant, ban, rightKind, person, category, deed, folio, member, contained, right, applies, step}
 use Rattle.walk.specs.declared.Walk.{Walk}
 use Rattle.walk.specs.Arcs.{takes, turned, tailOf, headOf, arcAt, Steps, walkOf}
 
--- the walk of a side's paths for a deed at office k + 1
-abbrev pub walkFor : ℕ → Side → ℕ → Walk
-walkFor k side d = walkOf (2 ^ k) (rightKind side) d
+-- the walk of a side's paths for a deed from a seat
+abbrev pub walkFor : Seat → Side → ℕ → Walk
+walkFor seat side d = walkOf seat (rightKind side) d
 
 -- a kind is one of five
 pub data Kind (k : ℕ) : Type 0 where
@@ -53,13 +54,13 @@ ends-are kind a b x y e q =
     left true e = refl
     left false e = e
 
-module _ (s : List ℕ) (acc : Accepted s) (k : ℕ) (side : Side) (d : ℕ) where
+module _ (s : List ℕ) (acc : Accepted s) (seat : Seat) (side : Side) (d : ℕ) where
   -- what the office sees
   abbrev g : View
-  g = seenAt s (suc k)
+  g = seenFrom s seat
 
   abbrev Arcs : ℕ → ℕ → Type 0
-  Arcs = Steps s (edgeTable s) (walkFor k side d) (headerOf s .edges)
+  Arcs = Steps s (edgeTable s) (walkFor seat side d) (headerOf s .edges)
 
   -- a link between two node rows, as the office sees it
   pub data Link (a b : ℕ) : Type 0 where
@@ -84,23 +85,23 @@ module _ (s : List ℕ) (acc : Accepted s) (k : ℕ) (side : Side) (d : ℕ) whe
   abbrev kindTest : ℕ → ℕ → ℕ → Bool
   kindTest r kind n = eqb kind 2 || (not (eqb r 0) && (eqb kind 1 || (eqb kind 5 || (eqb kind r && (eqb d 0 || eqb n d)))))
 
-  not-turned : (j : ℕ) → (edge j .kind ≡ 2 → ⊥) → turned (walkFor k side d) (edge j) ≡ false
+  not-turned : (j : ℕ) → (edge j .kind ≡ 2 → ⊥) → turned (walkFor seat side d) (edge j) ≡ false
   not-turned j n = rw (ne-eqb (edge j .kind) 2 n) (and-false (eqb (rightKind side) 4))
     where
       and-false : (b : Bool) → (b && false) ≡ false
       and-false true = refl
       and-false false = refl
 
-  straight-ends : (j a b : ℕ) → turned (walkFor k side d) (edge j) ≡ false → tailOf (walkFor k side d) (edge j) ≡ a → headOf (walkFor k side d) (edge j) ≡ b → (edge j .from ≡ a) × (edge j .to ≡ b)
+  straight-ends : (j a b : ℕ) → turned (walkFor seat side d) (edge j) ≡ false → tailOf (walkFor seat side d) (edge j) ≡ a → headOf (walkFor seat side d) (edge j) ≡ b → (edge j .from ≡ a) × (edge j .to ≡ b)
   unfolding tailOf headOf
   straight-ends j a b t p q = (rw t at p, rw t at q)
 
-  turned-ends : (j a b : ℕ) → turned (walkFor k side d) (edge j) ≡ true → tailOf (walkFor k side d) (edge j) ≡ a → headOf (walkFor k side d) (edge j) ≡ b → (edge j .to ≡ a) × (edge j .from ≡ b)
+  turned-ends : (j a b : ℕ) → turned (walkFor seat side d) (edge j) ≡ true → tailOf (walkFor seat side d) (edge j) ≡ a → headOf (walkFor seat side d) (edge j) ≡ b → (edge j .to ≡ a) × (edge j .from ≡ b)
   unfolding tailOf headOf
   turned-ends j a b t p q = (rw t at p, rw t at q)
 
   -- a row of another kind than 2 runs from its from row to its to row
-  straight : (j a b : ℕ) → (edge j .kind ≡ 2 → ⊥) → tailOf (walkFor k side d) (edge j) ≡ a → headOf (walkFor k side d) (edge j) ≡ b → (edge j .from ≡ a) × (edge j .to ≡ b)
+  straight : (j a b : ℕ) → (edge j .kind ≡ 2 → ⊥) → tailOf (walkFor seat side d) (edge j) ≡ a → headOf (walkFor seat side d) (edge j) ≡ b → (edge j .from ≡ a) × (edge j .to ≡ b)
   straight j a b n p q = straight-ends j a b (not-turned j n) p q
 
   -- a ban's steps run against containment
@@ -112,12 +113,12 @@ module _ (s : List ℕ) (acc : Accepted s) (k : ℕ) (side : Side) (d : ℕ) whe
   right-apart grant e = omega (arith, e)
   right-apart ban e = omega (arith, e)
 
-  -- the relation of a marked row stands
-  row-stands : (j : ℕ) → j < headerOf s .edges → marked (edge j .offices) (suc k) ≡ true → g .edge (relation (edge j .kind) (nodeKeyAt s (edge j .from)) (nodeKeyAt s (edge j .to))) ≡ true
+  -- the relation of a row that counts stands
+  row-stands : (j : ℕ) → j < headerOf s .edges → countsAt seat (edge j) ≡ true → g .edge (relation (edge j .kind) (nodeKeyAt s (edge j .from)) (nodeKeyAt s (edge j .to))) ≡ true
   unfolding edgeRow
-  row-stands j h m = seen-edge s acc (suc k) _ (record { row = j; inside = h; names = refl; bears = m })
+  row-stands j h m = seen-edge s acc (seat .office) _ (record { row = j; inside = h; names = refl; bears = m })
 
-  module _ (some : d ≡ 0 → ⊥) (j a b : ℕ) (h : j < headerOf s .edges) (marks : marked (edge j .offices) (suc k) ≡ true) (p : tailOf (walkFor k side d) (edge j) ≡ a) (q : headOf (walkFor k side d) (edge j) ≡ b) where
+  module _ (some : d ≡ 0 → ⊥) (j a b : ℕ) (h : j < headerOf s .edges) (marks : countsAt seat (edge j) ≡ true) (p : tailOf (walkFor seat side d) (edge j) ≡ a) (q : headOf (walkFor seat side d) (edge j) ≡ b) where
     fits : endsFit (edge j .kind) (nodeAt s (edge j .from) .class) (nodeAt s (edge j .to) .class) ≡ true
     fits = acc .edges .fit j h .ends
 
@@ -225,16 +226,16 @@ module _ (s : List ℕ) (acc : Accepted s) (k : ℕ) (side : Side) (d : ℕ) whe
   unfolding arcAt takes
   link-of some a b x =
       linked some (x .row) a b (x .inside)
-      (and-left (eqb (edge (x .row) .offices / 2 ^ k % 2) 1) _ (x .is)) (x .leaves) (x .enters)
-      (and-right (eqb (edge (x .row) .offices / 2 ^ k % 2) 1) _ (x .is))
+      (and-left (countsAt seat (edge (x .row))) _ (x .is)) (x .leaves) (x .enters)
+      (and-right (countsAt seat (edge (x .row))) _ (x .is))
 
   -- ---- and each relation is an arc
 
-  -- the marked row of a relation that stands
+  -- the row of a relation that stands
   record Arrow (kind : ℕ) (x y : Key) : Type 0 where
     pub row : ℕ
     pub inside : row < headerOf s .edges
-    pub bears : marked (edge row .offices) (suc k) ≡ true
+    pub bears : countsAt seat (edge row) ≡ true
     pub kind-is : edge row .kind ≡ kind
     pub from-is : nodeKeyAt s (edge row .from) ≡ x
     pub to-is : nodeKeyAt s (edge row .to) ≡ y
@@ -242,7 +243,7 @@ module _ (s : List ℕ) (acc : Accepted s) (k : ℕ) (side : Side) (d : ℕ) whe
   arrow-of : (kind t n v t′ n′ v′ : ℕ) → g .edge (relation kind (identity t n v) (identity t′ n′ v′)) ≡ true → Arrow kind (identity t n v) (identity t′ n′ v′)
   unfolding edgeRow
   arrow-of kind t n v t′ n′ v′ e =
-      let r = edge-seen s acc (suc k) _ e in
+      let r = edge-seen s acc (seat .office) _ e in
       record { row = r .row; inside = r .inside; bears = r .bears; kind-is = cc (r .names); from-is = cc (r .names); to-is = cc (r .names) }
 
   -- a node row that an arc leads to from a, with its key
@@ -255,12 +256,12 @@ module _ (s : List ℕ) (acc : Accepted s) (k : ℕ) (side : Side) (d : ℕ) whe
   pub same-row : (i j : ℕ) (x : Key) → i < headerOf s .nodes → j < headerOf s .nodes → nodeKeyAt s i ≡ x → nodeKeyAt s j ≡ x → i ≡ j
   same-row i j x g h p q = one-row (nodeKeyAt s) (headerOf s .nodes) (acc .nodes .rise) i j g h (p ∙ sym q)
 
-  arc-by : (j : ℕ) → j < headerOf s .edges → marked (edge j .offices) (suc k) ≡ true → kindTest (rightKind side) (edge j .kind) (nodeAt s (edge j .to) .number) ≡ true
-      → Arcs (tailOf (walkFor k side d) (edge j)) (headOf (walkFor k side d) (edge j))
+  arc-by : (j : ℕ) → j < headerOf s .edges → countsAt seat (edge j) ≡ true → kindTest (rightKind side) (edge j .kind) (nodeAt s (edge j .to) .number) ≡ true
+      → Arcs (tailOf (walkFor seat side d) (edge j)) (headOf (walkFor seat side d) (edge j))
   unfolding arcAt takes
   arc-by j h m t = record { row = j; inside = h; is = both m t; leaves = refl; enters = refl }
 
-  onto-straight : (kind : ℕ) (x y : Key) (a : ℕ) → a < headerOf s .nodes → nodeKeyAt s a ≡ x → (r : Arrow kind x y) → turned (walkFor k side d) (edge (r .row)) ≡ false
+  onto-straight : (kind : ℕ) (x y : Key) (a : ℕ) → a < headerOf s .nodes → nodeKeyAt s a ≡ x → (r : Arrow kind x y) → turned (walkFor seat side d) (edge (r .row)) ≡ false
       → kindTest (rightKind side) kind (nodeAt s (edge (r .row) .to) .number) ≡ true → Onto a y
   unfolding tailOf headOf
   onto-straight kind x y a l e r t u =
@@ -269,7 +270,7 @@ module _ (s : List ℕ) (acc : Accepted s) (k : ℕ) (side : Side) (d : ℕ) whe
       let f : edge (r .row) .from ≡ a = same-row _ a x (p .from) l (r .from-is) e in
       record { row = edge (r .row) .to; arc = subst (λ (w : ℕ). Arcs w (edge (r .row) .to)) f (rw t at z); inside = p .to; names = r .to-is }
 
-  onto-turned : (x y : Key) (a : ℕ) → a < headerOf s .nodes → nodeKeyAt s a ≡ y → (r : Arrow 2 x y) → turned (walkFor k side d) (edge (r .row)) ≡ true → Onto a x
+  onto-turned : (x y : Key) (a : ℕ) → a < headerOf s .nodes → nodeKeyAt s a ≡ y → (r : Arrow 2 x y) → turned (walkFor seat side d) (edge (r .row)) ≡ true → Onto a x
   unfolding tailOf headOf
   onto-turned x y a l e r t =
       let p = acc .edges .shaped (r .row) (r .inside) in

@@ -11,9 +11,10 @@ use borrow.Author.Tests.{le-ltb, ne-eqb, eq-eqb}
 use Rattle.tables.specs.Key.{Key, belowKey}
 use Rattle.tables.specs.Office.{View}
 use Rattle.tables.proofs.Keys.{Ahead, first, rest, ahead, rises}
+use Rattle.sheet.specs.declared.Seat.{Seat}
 use Rattle.sheet.specs.Rows.{headerOf, nodeAt, edgeTable, nodeKeyAt}
 use Rattle.sheet.specs.Accepted.{Accepted}
-use Rattle.sheet.specs.Named.{seenAt}
+use Rattle.sheet.specs.Seats.{seenFrom}
 use Rattle.paths.specs.Best.{Trail, ends, goes, Before, less, same, Best}
 use Rattle.paths.proofs.Tests.{both}
 use Rattle.meaning.specs.Paths.{Side, person, category, deed, folio, path, spell, isPath}
@@ -51,12 +52,12 @@ pair-order t n v n′ v′ x y e = types (ahead t t _ _ e)
 same-pair : (n v : ℕ) (x y : Key) → belowKey x y ≡ false → belowKey (n ∷ v ∷ x) (n ∷ v ∷ y) ≡ false
 same-pair n v x y e = rw (le-ltb n n (omega arith), eq-eqb n n refl, le-ltb v v (omega arith), eq-eqb v v refl) e
 
-module _ (s : List ℕ) (acc : Accepted s) (k : ℕ) (side : Side) (d : ℕ) (some : d ≡ 0 → ⊥) (rf f : ℕ) (inside : rf < headerOf s .nodes) (is-folio : nodeKeyAt s rf ≡ folio f) where
+module _ (s : List ℕ) (acc : Accepted s) (seat : Seat) (side : Side) (d : ℕ) (some : d ≡ 0 → ⊥) (rf f : ℕ) (inside : rf < headerOf s .nodes) (is-folio : nodeKeyAt s rf ≡ folio f) where
   abbrev g : View
-  g = seenAt s (suc k)
+  g = seenFrom s seat
 
   abbrev Arcs : ℕ → ℕ → Type 0
-  Arcs = Steps s (edgeTable s) (walkFor k side d) (headerOf s .edges)
+  Arcs = Steps s (edgeTable s) (walkFor seat side d) (headerOf s .edges)
 
   abbrev Goal : ℕ → Type 0
   Goal x = x ≡ rf
@@ -74,9 +75,9 @@ module _ (s : List ℕ) (acc : Accepted s) (k : ℕ) (side : Side) (d : ℕ) (so
 
   folio-left : (x f′ : ℕ) (rows : List ℕ) → nodeKeyAt s x ≡ folio f′ → Trail Arcs Goal x rows → length rows ≡ 1
   folio-left x f′ rows e (ends t) = refl
-  folio-left x f′ rows e (goes {b = b} st w) = absurd (never (link-of s acc k side d some x b st))
+  folio-left x f′ rows e (goes {b = b} st w) = absurd (never (link-of s acc seat side d some x b st))
     where
-      never : Link s acc k side d x b → ⊥
+      never : Link s acc seat side d x b → ⊥
       never (joins p c u v m) = let z : _≡_ {A = ℕ} 1 4 = cc in omega arith
       never (climbs c c′ u v m) = let z : _≡_ {A = ℕ} 2 4 = cc in omega arith
       never (gives-right c v u w m) = let z : _≡_ {A = ℕ} 2 4 = cc in omega arith
@@ -84,9 +85,9 @@ module _ (s : List ℕ) (acc : Accepted s) (k : ℕ) (side : Side) (d : ℕ) (so
 
   deed-left : (x y v : ℕ) (rows : List ℕ) → nodeKeyAt s x ≡ deed y v → Trail Arcs Goal x rows → length rows ≡ 2
   deed-left x y v rows e (ends t) = absurd (let q : deed y v ≡ folio f = sym e ∙ ap (nodeKeyAt s) t ∙ is-folio in let z : _≡_ {A = ℕ} 3 4 = cc in omega arith)
-  deed-left x y v rows e (goes {b = b} {l = l} st w) = by (link-of s acc k side d some x b st)
+  deed-left x y v rows e (goes {b = b} {l = l} st w) = by (link-of s acc seat side d some x b st)
     where
-      by : Link s acc k side d x b → suc (length l) ≡ 2
+      by : Link s acc seat side d x b → suc (length l) ≡ 2
       by (joins p c u z m) = absurd (let z : _≡_ {A = ℕ} 1 3 = cc in omega arith)
       by (climbs c c′ u z m) = absurd (let z : _≡_ {A = ℕ} 2 3 = cc in omega arith)
       by (gives-right c z u q m) = absurd (let z : _≡_ {A = ℕ} 2 3 = cc in omega arith)
@@ -94,16 +95,16 @@ module _ (s : List ℕ) (acc : Accepted s) (k : ℕ) (side : Side) (d : ℕ) (so
 
   category-left : (x c : ℕ) (rows : List ℕ) → nodeKeyAt s x ≡ category c → Trail Arcs Goal x rows → 3 ≤ length rows
   category-left x c rows e (ends t) = absurd (let q : category c ≡ folio f = sym e ∙ ap (nodeKeyAt s) t ∙ is-folio in let z : _≡_ {A = ℕ} 2 4 = cc in omega arith)
-  category-left x c rows e (goes {b = b} {l = l} st w) = by (link-of s acc k side d some x b st) (λ c′ e′. category-left b c′ l e′ w)
+  category-left x c rows e (goes {b = b} {l = l} st w) = by (link-of s acc seat side d some x b st) (λ c′ e′. category-left b c′ l e′ w)
     where
-      by : Link s acc k side d x b → ((c′ : ℕ) → nodeKeyAt s b ≡ category c′ → 3 ≤ length l) → 3 ≤ suc (length l)
+      by : Link s acc seat side d x b → ((c′ : ℕ) → nodeKeyAt s b ≡ category c′ → 3 ≤ length l) → 3 ≤ suc (length l)
       by (joins p c′ u z m) later = absurd (let z : _≡_ {A = ℕ} 1 2 = cc in omega arith)
       by (climbs c′ c″ u z m) later = let h = later c″ z in omega arith
       by (gives-right c′ v u z m) later = let h = deed-left b d v l z w in omega arith
       by (serves y v′ f″ u z m) later = absurd (let z : _≡_ {A = ℕ} 3 2 = cc in omega arith)
 
   typed : (a b : ℕ) (rows : List ℕ) → Arcs a b → Trail Arcs Goal b rows → nodeAt s b .class ≡ typeFor (length rows)
-  typed a b rows st w = by (link-of s acc k side d some a b st)
+  typed a b rows st w = by (link-of s acc seat side d some a b st)
     where
       many : (n : ℕ) → 3 ≤ n → typeFor n ≡ 2
       many zero h = absurd (omega (arith, h))
@@ -111,7 +112,7 @@ module _ (s : List ℕ) (acc : Accepted s) (k : ℕ) (side : Side) (d : ℕ) (so
       many (suc (suc zero)) h = absurd (omega (arith, h))
       many (suc (suc (suc n))) h = refl
 
-      by : Link s acc k side d a b → nodeAt s b .class ≡ typeFor (length rows)
+      by : Link s acc seat side d a b → nodeAt s b .class ≡ typeFor (length rows)
       by (joins p c u y m) = class-of b 2 c 0 y ∙ sym (many (length rows) (category-left b c rows y w))
       by (climbs c c′ u y m) = class-of b 2 c′ 0 y ∙ sym (many (length rows) (category-left b c′ rows y w))
       by (gives-right c v u y m) = class-of b 3 d v y ∙ ap typeFor (sym (deed-left b d v rows y w))
@@ -141,14 +142,14 @@ module _ (s : List ℕ) (acc : Accepted s) (k : ℕ) (side : Side) (d : ℕ) (so
   words-order x x′ l l′ h e (goes {b = y} {l = m} st w) (goes {b = y′} {l = m′} st′ w′) n (same q) =
       let z : length m ≡ length m′ = omega arith in
       same-pair (nodeAt s x .number) (nodeAt s x .variant) (nodeWords s m′) (nodeWords s m)
-      (words-order y y′ m m′ (step-inside s (edgeTable s) (headerOf s) (walkFor k side d) acc _ y′ st′ .1)
+      (words-order y y′ m m′ (step-inside s (edgeTable s) (headerOf s) (walkFor seat side d) acc _ y′ st′ .1)
       (typed _ y m st w ∙ ap typeFor z ∙ sym (typed _ y′ m′ st′ w′)) w w′ z q)
 
   -- ---- the witness
 
   module _ (x p : ℕ) (h : x < headerOf s .nodes) (is-person : nodeKeyAt s x ≡ person p) (rows : List ℕ) (best : Best Arcs Goal x rows) where
-    read : FromPerson s acc k side d some rf f inside is-folio p rows
-    read = person-read s acc k side d some rf f inside is-folio x p rows is-person (best .leads)
+    read : FromPerson s acc seat side d some rf f inside is-folio p rows
+    read = person-read s acc seat side d some rf f inside is-folio x p rows is-person (best .leads)
 
     -- as many nodes as categories, and three
     long : length rows ≡ 4 + length (read .categories)
@@ -158,11 +159,11 @@ module _ (s : List ℕ) (acc : Accepted s) (k : ℕ) (side : Side) (d : ℕ) (so
         let c = spell-long p (read .start ∷ read .categories) d (read .variant) f in
         omega arith
 
-    fewest : (cs : List ℕ) (v : ℕ) → Goes s acc k side d some rf f inside is-folio (read .start) cs v → length (read .categories) ≤ length cs
+    fewest : (cs : List ℕ) (v : ℕ) → Goes s acc seat side d some rf f inside is-folio (read .start) cs v → length (read .categories) ≤ length cs
     unfolding spell
     fewest cs v w =
-        let a = member-arc s acc k side d x p (read .start) h is-person (read .assigned) in
-        let r = lay s acc k side d some rf f inside is-folio (read .start) cs v (a .row) w (a .inside) (a .names) in
+        let a = member-arc s acc seat side d x p (read .start) h is-person (read .assigned) in
+        let r = lay s acc seat side d some rf f inside is-folio (read .start) cs v (a .row) w (a .inside) (a .names) in
         let q = best .short (x ∷ r .rows) (goes (a .arc) (r .trail)) in
         let l = long in
         let m = words-long s (r .rows) in
@@ -175,7 +176,7 @@ module _ (s : List ℕ) (acc : Accepted s) (k : ℕ) (side : Side) (d : ℕ) (so
     holds =
         subst (λ (ws : List ℕ). isPath g side p d f ws ≡ true) (sym (read .words))
         (spells g side p d f (read .start ∷ read .categories) (read .variant)
-        (both (read .assigned) (short-leads s acc k side d some rf f inside is-folio (read .start) (read .categories) (read .variant) (read .walks) fewest)))
+        (both (read .assigned) (short-leads s acc seat side d some rf f inside is-folio (read .start) (read .categories) (read .variant) (read .walks) fewest)))
 
     no-earlier : (rows′ : List ℕ) → Trail Arcs Goal x rows′ → fewer (nodeWords s rows′) (nodeWords s rows) ≡ false
     no-earlier rows′ t = go (decLt (length rows) (length rows′))
@@ -193,5 +194,5 @@ module _ (s : List ℕ) (acc : Accepted s) (k : ℕ) (side : Side) (d : ℕ) (so
     witness =
         record {
           holds = holds;
-          first = λ ys q. let r = path-trail s acc k side d some rf f inside is-folio x p ys h is-person q in subst (λ (ws : List ℕ). fewer ws (nodeWords s rows) ≡ false) (r .words) (no-earlier (r .rows) (r .trail));
+          first = λ ys q. let r = path-trail s acc seat side d some rf f inside is-folio x p ys h is-person q in subst (λ (ws : List ℕ). fewer ws (nodeWords s rows) ≡ false) (r .words) (no-earlier (r .rows) (r .trail));
         }

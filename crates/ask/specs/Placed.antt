@@ -1,16 +1,17 @@
 -- Where a question's person, deed and folio stand.
 -- Assumes nothing.
-use Prim.Native.Nat.{ℕ, suc, _^_, _<_}
+use Prim.Native.Nat.{ℕ, _<_}
 use mathlib.Core.Path.{_≡_}
 use mathlib.Core.Bool.{Bool, not}
 use mathlib.Core.List.{List}
 use Rattle.sheet.specs.Refusals.{_below_, _when_otherwise_}
 use Rattle.sheet.specs.Rows.{headerOf, nodeKeyAt}
+use Rattle.sheet.specs.Seats.{Seated}
 use Rattle.meaning.specs.Paths.{person, folio}
 use Rattle.question.specs.declared.Question.{Question}
 use Rattle.ask.specs.declared.Places.{Places}
 use Rattle.ask.specs.declared.Stand.{Stand}
-use Rattle.question.specs.Asked.{stands, askFault, FirstStanding}
+use Rattle.question.specs.Asked.{seatFor, stands, askFault, FirstStanding}
 
 -- the rows of the question's person and folio, and that its deed is one
 pub record Placed (s : List ℕ) (q : Question) (rp rf : ℕ) : Type 0 where
@@ -34,9 +35,8 @@ unfound n p =
     23 when not (p .folio below n) otherwise
     0
 
--- how a question at an office stands: what refuses it, and where nothing does the office's mark and the rows of the person and the folio
+-- how a question at an office stands: what refuses it, and where nothing does its seat and the rows of the person and the folio
 pub record StandsSo (s : List ℕ) (q : Question) (r : Stand) : Type 0 where
   pub number : r .number ≡ askFault s q
-  pub office : r .number ≡ 0 → q .office ≡ suc (r .office)
-  pub mark : r .number ≡ 0 → (r .mark ≡ 2 ^ r .office) × (0 < r .mark)
+  pub seat : r .number ≡ 0 → (r .seat ≡ seatFor q) × Seated (r .seat)
   pub placed : r .number ≡ 0 → Placed s q (r .person) (r .folio)

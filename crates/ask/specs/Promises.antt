@@ -10,12 +10,12 @@ use Rattle.meaning.specs.Answers.{AnswerIs, JointIs}
 use Rattle.meaning.specs.Questions.{WitnessIs}
 use Rattle.question.specs.declared.Question.{Question}
 use Rattle.question.specs.declared.Answer.{Answer}
-use Rattle.question.specs.Asked.{askFault, jointFault, afterSheet, sideOf}
+use Rattle.question.specs.Asked.{asked, askFault, jointFault, afterSheet, sideOf}
 use Rattle.question.specs.Replies.{Replies, Shows}
 
 -- question 1: the answer at an office, as a number
 abbrev pub AnswersAtOffice : (ℕ → Refusal) → List ℕ → Question → Answer → Type 0
-AnswersAtOffice after s q a = Replies (after (askFault s q)) (λ value count. AnswerIs (seenAt s (q .office)) (q .person) (q .deed) (q .folio) value × (count ≡ 0)) a
+AnswersAtOffice after s q a = Replies (after (askFault s q)) (λ value count. AnswerIs (asked s q) (q .person) (q .deed) (q .folio) value × (count ≡ 0)) a
 
 -- question 2: the joint answer, and the deciding office
 abbrev pub AnswersJointly : (ℕ → Refusal) → List ℕ → Question → Answer → Type 0
@@ -23,7 +23,7 @@ AnswersJointly after s q a = Replies (after (jointFault s q)) (λ value count. J
 
 -- question 3: the words of the witness of a grant or a ban
 abbrev pub WitnessOf : List ℕ → Question → List ℕ → Type 0
-WitnessOf s q ws = WitnessIs (seenAt s (q .office)) (sideOf (q .kind)) (q .person) (q .deed) (q .folio) ws
+WitnessOf s q ws = WitnessIs (asked s q) (sideOf (q .kind)) (q .person) (q .deed) (q .folio) ws
 
 -- .. which are shown in the lent output
 abbrev pub Witnesses : List ℕ → Question → List ℕ → Answer → List ℕ → Type 0

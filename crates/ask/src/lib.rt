@@ -2,10 +2,11 @@
 use question::Answer;
 use question::Question;
 use sheet::Header;
+use sheet::Seat;
 use walk::Walk;
 ghost use mathlib.Core.Path.{_≡_};
 ghost use mathlib.Core.Bool.{true, false};
-ghost use Prim.Native.Nat.{ℕ, suc, _*_, _^_, _<_, _≤_};
+ghost use Prim.Native.Nat.{ℕ, suc, _*_, _<_, _≤_};
 ghost use lib.ListN.{length, getD, take, drop};
 ghost use mathlib.Core.List.{_++_};
 ghost use Rattle.sheet.specs.Limits.{maxOffices, maxNodes};
@@ -13,14 +14,15 @@ ghost use Rattle.sheet.specs.Refusals.{none};
 ghost use Rattle.sheet.specs.Rows.{headerOf};
 ghost use Rattle.sheet.specs.Accepted.{NodesFormed, WellFormed, Accepted};
 ghost use Rattle.sheet.specs.Named.{seenAt};
+ghost use Rattle.sheet.specs.Seats.{Seated, seenFrom};
 ghost use Rattle.paths.specs.Steps.{Layers};
 ghost use Rattle.walk.specs.Arcs.{Steps, walkOf, reversed};
 ghost use Rattle.meaning.specs.Paths.{rightKind, HasPath};
 ghost use Rattle.meaning.specs.Answers.{Says, answered, AnswerIs, lowest, undetermined, jointly, JointIs};
 ghost use Rattle.meaning.specs.Questions.{WitnessIs};
-ghost use Rattle.question.specs.Asked.{FirstStanding, askFault, jointFault, plain, afterSheet, sideOf};
+ghost use Rattle.question.specs.Asked.{asked, FirstStanding, askFault, jointFault, plain, afterSheet, sideOf};
 ghost use Rattle.question.specs.Replies.{Replies, Shows};
-ghost use Rattle.question.specs.Checked.{AtOffice};
+ghost use Rattle.question.specs.Checked.{AtSeat};
 ghost use Rattle.ask.specs.Placed.{Placed, FoundAll, unfound, StandsSo};
 ghost use Rattle.ask.specs.Promises.{AnswersAtOffice, AnswersJointly, Witnesses};
 ghost use Rattle.ask.specs.Passing.{passing, telling};
@@ -33,11 +35,10 @@ pub struct Places {
     pub folio: u32,
 }
 
-// How a question at an office stands: a refusal's number, or 0 with the office counted from 0, its mark, and the rows of the person and the folio.
+// How a question at an office stands: a refusal's number, or 0 with the seat from which it is asked, and the rows of the person and the folio.
 struct Stand {
     number: u32,
-    office: u32,
-    mark: u32,
+    seat: Seat,
     person: u32,
     folio: u32,
 }
@@ -49,13 +50,13 @@ const ROWS: usize = sheet::MAX_NODES as usize;
 const OFFICES: usize = sheet::MAX_OFFICES as usize;
 
 // Where the question's person, deed and folio stand.
-fn places_of(sheet: &[u32], h: Header, any: bool, k: u32, mark: u32, q: Question) -> Places
-    requires { ⌜ NodesFormed (now sheet) h × (mark ≡ 2 ^ k) × (0 < mark) ⌝ }
-    ensures { λ r. ⌜ FoundAll (now (sheet .entry)) any (suc k) (h .nodes) q r ⌝ }
+fn places_of(sheet: &[u32], h: Header, any: bool, seat: Seat, q: Question) -> Places
+    requires { ⌜ NodesFormed (now sheet) h × Seated seat ⌝ }
+    ensures { λ r. ⌜ FoundAll (now (sheet .entry)) any (seat .office) (h .nodes) q r ⌝ }
 {
-    let person = question::seek(sheet, h, any, k, mark, 1, q.person);
-    let deed = question::seek(sheet, h, any, k, mark, 3, q.deed);
-    let folio = question::seek(sheet, h, any, k, mark, 4, q.folio);
+    let person = question::seek(sheet, h, any, seat, 1, q.person);
+    let deed = question::seek(sheet, h, any, seat, 3, q.deed);
+    let folio = question::seek(sheet, h, any, seat, 4, q.folio);
     Places {
         person: person,
         deed: deed,
@@ -65,7 +66,7 @@ fn places_of(sheet: &[u32], h: Header, any: bool, k: u32, mark: u32, q: Question
 
 // How many steps lead from each node row to a row, and one; 0 where none do.
 fn measured(sheet: &[u32], edges: &[u32], h: Header, w: Walk, to: u32) -> [u32; ROWS]
-    requires { ⌜ WellFormed (now sheet) (now edges) h × (0 < w .mark) × (to < h .nodes) ⌝ }
+    requires { ⌜ WellFormed (now sheet) (now edges) h × Seated (w .seat) × (to < h .nodes) ⌝ }
     ensures { λ r. ⌜ (length r ≡ maxNodes) × Layers (Steps (now (sheet .entry)) (now (edges .entry)) (reversed w) (h .edges)) (λ x. x ≡ to) r ⌝ }
 {
     let mut d = walk::target(to);
@@ -75,49 +76,47 @@ fn measured(sheet: &[u32], edges: &[u32], h: Header, w: Walk, to: u32) -> [u32; 
 }
 
 // The walk of a side's paths.
-fn walk_for(mark: u32, kind: u32, deed: u32) -> Walk
-    ensures { λ r. ⌜ r ≡ walkOf mark (rightKind (sideOf kind)) deed ⌝ }
+fn walk_for(seat: Seat, kind: u32, deed: u32) -> Walk
+    ensures { λ r. ⌜ r ≡ walkOf seat (rightKind (sideOf kind)) deed ⌝ }
 {
-    walk::walk_of(mark, question::right_of(kind), deed)
+    walk::walk_of(seat, question::right_of(kind), deed)
 }
 
-// Whether office k + 1 has a grant or a ban path for the question's person, deed and folio.
+// Whether a grant or a ban path is seen from the seat for the question's person, deed and folio.
 fn has_path(
     sheet: &[u32],
     edges: &[u32],
     h: Header,
-    k: u32,
-    mark: u32,
+    seat: Seat,
     kind: u32,
     q: Question,
     rp: u32,
     rf: u32,
 ) -> bool
-    requires { ⌜ AtOffice (now sheet) (now edges) h k mark × Placed (now sheet) q rp rf ⌝ }
-    ensures { λ r. ⌜ Says r (HasPath (seenAt (now (sheet .entry)) (suc k)) (sideOf kind) (q .person) (q .deed) (q .folio)) ⌝ }
+    requires { ⌜ AtSeat (now sheet) (now edges) h seat × Placed (now sheet) q rp rf ⌝ }
+    ensures { λ r. ⌜ Says r (HasPath (seenFrom (now (sheet .entry)) seat) (sideOf kind) (q .person) (q .deed) (q .folio)) ⌝ }
 {
-    let w = walk_for(mark, kind, q.deed);
+    let w = walk_for(seat, kind, q.deed);
     let d = measured(sheet, edges, h, w, rf);
     let i = rp as usize;
     d[i] != 0
 }
 
-// The answer of office k + 1 on placed rows: 0 Undetermined, 1 Granted, 2 Banned, 3 Both.
+// The answer of the seat's office on placed rows: 0 Undetermined, 1 Granted, 2 Banned, 3 Both.
 fn answer_at(
     sheet: &[u32],
     edges: &[u32],
     h: Header,
-    k: u32,
-    mark: u32,
+    seat: Seat,
     q: Question,
     rp: u32,
     rf: u32,
 ) -> u32
-    requires { ⌜ AtOffice (now sheet) (now edges) h k mark × Placed (now sheet) q rp rf ⌝ }
-    ensures { λ r. ⌜ AnswerIs (seenAt (now (sheet .entry)) (suc k)) (q .person) (q .deed) (q .folio) r ⌝ }
+    requires { ⌜ AtSeat (now sheet) (now edges) h seat × Placed (now sheet) q rp rf ⌝ }
+    ensures { λ r. ⌜ AnswerIs (seenFrom (now (sheet .entry)) seat) (q .person) (q .deed) (q .folio) r ⌝ }
 {
-    let grants = has_path(sheet, edges, h, k, mark, 0, q, rp, rf);
-    let bans = has_path(sheet, edges, h, k, mark, 1, q, rp, rf);
+    let grants = has_path(sheet, edges, h, seat, 0, q, rp, rf);
+    let bans = has_path(sheet, edges, h, seat, 1, q, rp, rf);
     answer_number(grants, bans)
 }
 
@@ -153,32 +152,16 @@ fn unknown_of(h: Header, p: Places) -> u32
     0
 }
 
-// The answer of office k + 1. An office that does not know the person, the deed or the folio is undetermined.
-fn office_answer(sheet: &[u32], edges: &[u32], h: Header, k: u32, mark: u32, q: Question) -> u32
-    requires { ⌜ AtOffice (now sheet) (now edges) h k mark ⌝ }
-    ensures { λ r. ⌜ AnswerIs (seenAt (now (sheet .entry)) (suc k)) (q .person) (q .deed) (q .folio) r ⌝ }
+// The answer of the seat's office. An office that does not know the person, the deed or the folio is undetermined.
+fn office_answer(sheet: &[u32], edges: &[u32], h: Header, seat: Seat, q: Question) -> u32
+    requires { ⌜ AtSeat (now sheet) (now edges) h seat ⌝ }
+    ensures { λ r. ⌜ AnswerIs (seenFrom (now (sheet .entry)) seat) (q .person) (q .deed) (q .folio) r ⌝ }
 {
-    let p = places_of(sheet, h, false, k, mark, q);
+    let p = places_of(sheet, h, false, seat, q);
     if unknown_of(h, p) != 0 {
         return 0;
     }
-    answer_at(sheet, edges, h, k, mark, q, p.person, p.folio)
-}
-
-// How a question stands at an office that there is.
-fn stand_at(sheet: &[u32], h: Header, k: u32, q: Question) -> Stand
-    requires { ⌜ Accepted (now sheet) × (h ≡ headerOf (now sheet)) × (q .office ≡ suc k) × (k < h .offices) ⌝ }
-    ensures { λ r. ⌜ StandsSo (now (sheet .entry)) q r ⌝ }
-{
-    let mark = question::mark_of(k);
-    let p = places_of(sheet, h, false, k, mark, q);
-    Stand {
-        number: unknown_of(h, p),
-        office: k,
-        mark: mark,
-        person: p.person,
-        folio: p.folio,
-    }
+    answer_at(sheet, edges, h, seat, q, p.person, p.folio)
 }
 
 // How a question at an office stands.
@@ -190,28 +173,31 @@ fn stand_of(sheet: &[u32], h: Header, q: Question) -> Stand
     if n != 0 {
         return Stand {
             number: n,
-            office: 0,
-            mark: 0,
+            seat: Seat { office: 0, mark: 0 },
             person: 0,
             folio: 0,
         };
     }
-    stand_at(sheet, h, q.office - 1, q)
+    let seat = question::seat_at(q.office);
+    let p = places_of(sheet, h, false, seat, q);
+    Stand {
+        number: unknown_of(h, p),
+        seat: seat,
+        person: p.person,
+        folio: p.folio,
+    }
 }
 
 // Question 1 on a sheet that was checked.
 fn answer_checked(sheet: &[u32], edges: &[u32], h: Header, q: Question) -> Answer
     requires { ⌜ WellFormed (now sheet) (now edges) h ⌝ }
-    ensures { λ a. ⌜ Replies (plain (askFault (now (sheet .entry)) q)) (λ value count. AnswerIs (seenAt (now (sheet .entry)) (q .office)) (q .person) (q .deed) (q .folio) value × (count ≡ 0)) a ⌝ }
+    ensures { λ a. ⌜ Replies (plain (askFault (now (sheet .entry)) q)) (λ value count. AnswerIs (asked (now (sheet .entry)) q) (q .person) (q .deed) (q .folio) value × (count ≡ 0)) a ⌝ }
 {
     let t = stand_of(sheet, h, q);
     if t.number != 0 {
         return question::refused_by(t.number);
     }
-    question::told(
-        answer_at(sheet, edges, h, t.office, t.mark, q, t.person, t.folio),
-        0,
-    )
+    question::told(answer_at(sheet, edges, h, t.seat, q, t.person, t.folio), 0)
 }
 
 // Question 1, the answer at an office: 0 Undetermined, 1 Granted, 2 Banned, 3 Both, in `value`.
@@ -235,9 +221,9 @@ fn answers_of(sheet: &[u32], edges: &[u32], h: Header, q: Question) -> [u32; OFF
     let n = h.offices;
     let mut k: u32 = 0;
     while k < n {
-        let mark = question::mark_of(k);
+        let seat = question::seat_at(k + 1);
         let at = k as usize;
-        rs[at] = office_answer(sheet, edges, h, k, mark, q);
+        rs[at] = office_answer(sheet, edges, h, seat, q);
         k += 1;
     }
     rs
@@ -320,7 +306,7 @@ fn joint_checked(sheet: &[u32], edges: &[u32], h: Header, q: Question) -> Answer
     if (q.rule < 1) | (3 < q.rule) {
         return question::refused_by(27);
     }
-    let p = places_of(sheet, h, true, 0, 1, q);
+    let p = places_of(sheet, h, true, question::seat_at(1), q);
     let n = unknown_of(h, p);
     if n != 0 {
         return question::refused_by(n);
@@ -359,18 +345,17 @@ fn path_rows(
     sheet: &[u32],
     edges: &[u32],
     h: Header,
-    k: u32,
-    mark: u32,
+    seat: Seat,
     q: Question,
     d: [u32; ROWS],
     rp: u32,
     rf: u32,
 ) -> [u32; ROWS]
-    requires { ⌜ AtOffice (now sheet) (now edges) h k mark × Placed (now sheet) q rp rf × Measured (now sheet) (now edges) h k q rf d × (0 < getD d rp 0) ⌝ }
-    ensures { λ r. ⌜ PathRows (now (sheet .entry)) (h .nodes) k q (getD d rp 0) r ⌝ }
+    requires { ⌜ AtSeat (now sheet) (now edges) h seat × Placed (now sheet) q rp rf × Measured (now sheet) (now edges) h seat q rf d × (0 < getD d rp 0) ⌝ }
+    ensures { λ r. ⌜ PathRows (now (sheet .entry)) (h .nodes) seat q (getD d rp 0) r ⌝ }
 {
     let mut rows = [0u32; ROWS];
-    let w = walk_for(mark, q.kind, q.deed);
+    let w = walk_for(seat, q.kind, q.deed);
     walk::trace(sheet, edges, h, w, &d, rp, &mut rows);
     rows
 }
@@ -380,24 +365,23 @@ fn witness_at(
     sheet: &[u32],
     edges: &[u32],
     h: Header,
-    k: u32,
-    mark: u32,
+    seat: Seat,
     q: Question,
     rp: u32,
     rf: u32,
     out: &mut [u32],
 ) -> Answer
-    requires { ⌜ AtOffice (now sheet) (now edges) h k mark × Placed (now sheet) q rp rf ⌝ }
-    ensures { λ a. ⌜ Shows none (WitnessIs (seenAt (now (sheet .entry)) (suc k)) (sideOf (q .kind)) (q .person) (q .deed) (q .folio)) (now (out .entry)) a (now (out .exit)) ⌝ }
+    requires { ⌜ AtSeat (now sheet) (now edges) h seat × Placed (now sheet) q rp rf ⌝ }
+    ensures { λ a. ⌜ Shows none (WitnessIs (seenFrom (now (sheet .entry)) seat) (sideOf (q .kind)) (q .person) (q .deed) (q .folio)) (now (out .entry)) a (now (out .exit)) ⌝ }
 {
-    let w = walk_for(mark, q.kind, q.deed);
+    let w = walk_for(seat, q.kind, q.deed);
     let d = measured(sheet, edges, h, w, rf);
     let i = rp as usize;
     let n = d[i];
     if n == 0 {
         return question::refused_by(26);
     }
-    let rows = path_rows(sheet, edges, h, k, mark, q, d, rp, rf);
+    let rows = path_rows(sheet, edges, h, seat, q, d, rp, rf);
     let m = n as usize;
     if out.len() < 2 * m {
         return question::refused_by(25);
@@ -409,13 +393,13 @@ fn witness_at(
 // Question 3 on a sheet that was checked.
 fn witness_checked(sheet: &[u32], edges: &[u32], h: Header, q: Question, out: &mut [u32]) -> Answer
     requires { ⌜ WellFormed (now sheet) (now edges) h ⌝ }
-    ensures { λ a. ⌜ Shows (plain (askFault (now (sheet .entry)) q)) (WitnessIs (seenAt (now (sheet .entry)) (q .office)) (sideOf (q .kind)) (q .person) (q .deed) (q .folio)) (now (out .entry)) a (now (out .exit)) ⌝ }
+    ensures { λ a. ⌜ Shows (plain (askFault (now (sheet .entry)) q)) (WitnessIs (asked (now (sheet .entry)) q) (sideOf (q .kind)) (q .person) (q .deed) (q .folio)) (now (out .entry)) a (now (out .exit)) ⌝ }
 {
     let t = stand_of(sheet, h, q);
     if t.number != 0 {
         return question::refused_by(t.number);
     }
-    witness_at(sheet, edges, h, t.office, t.mark, q, t.person, t.folio, out)
+    witness_at(sheet, edges, h, t.seat, q, t.person, t.folio, out)
 }
 
 // Question 3, the witness of a grant or a ban: the path with fewest nodes, first in dictionary order, two words a node; how many words in `count`.

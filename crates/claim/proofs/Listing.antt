@@ -1,6 +1,6 @@
 -- Question 4: what the tests of a lent list of words decide.
 -- Assumes nothing.
-use Prim.Native.Nat.{ℕ, zero, suc, _+_, _-_, _*_, _/_, _%_, _^_, _<_, _≤_}
+use Prim.Native.Nat.{ℕ, zero, suc, _+_, _-_, _*_, _/_, _%_, _<_, _≤_}
 use native.Mathlib.Omega.{arith}
 use mathlib.Core.Path.{_≡_, refl, sym, ap, subst, _∙_}
 use mathlib.Core.Bool.{Bool, true, false, not, _&&_, _||_, Bool·beq, false≢true}
@@ -16,60 +16,63 @@ use Rattle.tables.proofs.Keys.{same-eq, eq-same}
 use Rattle.sheet.specs.declared.Header.{Header}
 use Rattle.sheet.specs.declared.Node.{Node}
 use Rattle.sheet.specs.declared.Edge.{Edge}
+use Rattle.sheet.specs.declared.Seat.{Seat}
 use Rattle.sheet.specs.Rows.{headerOf, nodeAt, edgeAt, edgeTable, nodeKey, nodeKeyAt}
 use Rattle.sheet.specs.Accepted.{WellFormed, Accepted}
-use Rattle.sheet.specs.Named.{edgeRow, seenAt}
+use Rattle.sheet.specs.Named.{edgeRow}
+use Rattle.sheet.specs.Seats.{countsAt, seenFrom}
 use Rattle.sheet.proofs.Accepting.{or-false}
 use Rattle.sheet.proofs.Naming.{edge-seen, seen-edge}
 use Rattle.paths.specs.Leads.{among, leads}
 use Rattle.paths.proofs.Tests.{and-left, and-right, both, or-cases}
 use Rattle.meaning.specs.Paths.{Side, rightKind, category, deed, member, contained, applies, step, carries, path, pairs, spell, firsts, isPath}
 use Rattle.meaning.proofs.Spelling.{spelt, spell-long}
-use Rattle.question.specs.Asked.{sideOf, badOffice}
+use Rattle.question.specs.declared.Question.{Question}
+use Rattle.question.specs.Asked.{sideOf, seatFor, asked, badOffice}
 use Rattle.claim.specs.Listed.{rowOf, everySecond, hasSecond, framed, wayFrom, goesOn}
-use Rattle.question.specs.Checked.{AtOffice}
+use Rattle.question.specs.Checked.{AtSeat}
 use Rattle.sheet.proofs.Forming.{words-of}
 use Rattle.question.proofs.Known.{side-grant, side-ban}
 
 -- ---- a relation is seen exactly if a row of the edge table is it
 
-module _ (s t : List ℕ) (h : Header) (k mark : ℕ) (o : AtOffice s t h k mark) (kind : ℕ) (a b : Node) where
+module _ (s t : List ℕ) (h : Header) (seat : Seat) (o : AtSeat s t h seat) (kind : ℕ) (a b : Node) where
   acc : Accepted s
   acc = words-of s t h (o .formed)
 
   abbrev seen : Bool
-  seen = seenAt s (suc k) .edge (relation kind (nodeKey a) (nodeKey b))
+  seen = seenFrom s seat .edge (relation kind (nodeKey a) (nodeKey b))
 
   -- the test of a row, over the words alone
-  own-row : (j : ℕ) → rowOf s t mark kind a b j ≡ rowOf s (edgeTable s) (2 ^ k) kind a b j
-  own-row j = ap (λ (x : List ℕ). rowOf s x mark kind a b j) (o .formed .table) ∙ ap (λ (x : ℕ). rowOf s (edgeTable s) x kind a b j) (o .mark-is)
+  own-row : (j : ℕ) → rowOf s t seat kind a b j ≡ rowOf s (edgeTable s) seat kind a b j
+  own-row j = ap (λ (x : List ℕ). rowOf s x seat kind a b j) (o .formed .table)
 
-  row-seen : (j : ℕ) → j < headerOf s .edges → rowOf s (edgeTable s) (2 ^ k) kind a b j ≡ true → seen ≡ true
+  row-seen : (j : ℕ) → j < headerOf s .edges → rowOf s (edgeTable s) seat kind a b j ≡ true → seen ≡ true
   unfolding rowOf edgeRow
   row-seen j l e =
       let r = and-right (eqb (edgeAt (edgeTable s) j .kind) kind) _ e in
-      let n = and-right (eqb (edgeAt (edgeTable s) j .offices / 2 ^ k % 2) 1) _ r in
+      let n = and-right (countsAt seat (edgeAt (edgeTable s) j)) _ r in
       let u : edgeAt (edgeTable s) j .kind ≡ kind = eqb-true _ kind (and-left (eqb (edgeAt (edgeTable s) j .kind) kind) _ e) in
       let x : nodeKeyAt s (edgeAt (edgeTable s) j .from) ≡ nodeKey a = same-eq _ _ (and-left (sameKey (nodeKeyAt s (edgeAt (edgeTable s) j .from)) (nodeKey a)) _ n) in
       let y : nodeKeyAt s (edgeAt (edgeTable s) j .to) ≡ nodeKey b = same-eq _ _ (and-right (sameKey (nodeKeyAt s (edgeAt (edgeTable s) j .from)) (nodeKey a)) _ n) in
-      seen-edge s acc (suc k) _ (record { row = j; inside = l; names = joined u x y; bears = and-left (eqb (edgeAt (edgeTable s) j .offices / 2 ^ k % 2) 1) _ r })
+      seen-edge s acc (seat .office) _ (record { row = j; inside = l; names = joined u x y; bears = and-left (countsAt seat (edgeAt (edgeTable s) j)) _ r })
     where
       joined : {i i′ : ℕ} {x x′ y y′ : Key} → i ≡ i′ → x ≡ x′ → y ≡ y′ → relation i x y ≡ relation i′ x′ y′
       joined e f g = rw (e, f, g) refl
 
-  seen-row : seen ≡ true → (j : ℕ) × (j < headerOf s .edges) × (rowOf s (edgeTable s) (2 ^ k) kind a b j ≡ true)
+  seen-row : seen ≡ true → (j : ℕ) × (j < headerOf s .edges) × (rowOf s (edgeTable s) seat kind a b j ≡ true)
   unfolding rowOf edgeRow
   seen-row e =
-      let r = edge-seen s acc (suc k) _ e in
+      let r = edge-seen s acc (seat .office) _ e in
       let u : edgeAt (edgeTable s) (r .row) .kind ≡ kind = cc (r .names) in
       let x : nodeKeyAt s (edgeAt (edgeTable s) (r .row) .from) ≡ nodeKey a = cc (r .names) in
       let y : nodeKeyAt s (edgeAt (edgeTable s) (r .row) .to) ≡ nodeKey b = cc (r .names) in
       (r .row, r .inside, both (eq-eqb _ kind u) (both (r .bears) (both (eq-same _ _ x) (eq-same _ _ y))))
 
-  pub related-by : (j : ℕ) → j < h .edges → rowOf s t mark kind a b j ≡ true → true ≡ seen
+  pub related-by : (j : ℕ) → j < h .edges → rowOf s t seat kind a b j ≡ true → true ≡ seen
   related-by j l e = sym (row-seen j (subst (λ (x : Header). j < x .edges) (o .formed .head) l) (sym (own-row j) ∙ e))
 
-  pub related-none : ((j : ℕ) → j < h .edges → rowOf s t mark kind a b j ≡ false) → false ≡ seen
+  pub related-none : ((j : ℕ) → j < h .edges → rowOf s t seat kind a b j ≡ false) → false ≡ seen
   related-none n = go seen refl
     where
       go : (x : Bool) → seen ≡ x → false ≡ seen
@@ -88,11 +91,11 @@ end-room s t h j e w l q =
     let n = w .nodes .header .whole in
     (omega arith, omega arith)
 
-pub row-is : (s t : List ℕ) (mark kind : ℕ) (a b : Node) (j : ℕ) (e : Edge) (x y : Node) (u v : Bool) → e ≡ edgeAt t j → x ≡ nodeAt s (e .from) → y ≡ nodeAt s (e .to)
-    → u ≡ sameKey (nodeKey x) (nodeKey a) → v ≡ sameKey (nodeKey y) (nodeKey b)
-    → (eqb (e .kind) kind && (eqb (e .offices / mark % 2) 1 && (u && v))) ≡ rowOf s t mark kind a b j
+pub row-is : (s t : List ℕ) (seat : Seat) (kind : ℕ) (a b : Node) (j : ℕ) (e : Edge) (x y : Node) (c u v : Bool) → e ≡ edgeAt t j → x ≡ nodeAt s (e .from) → y ≡ nodeAt s (e .to)
+    → c ≡ countsAt seat e → u ≡ sameKey (nodeKey x) (nodeKey a) → v ≡ sameKey (nodeKey y) (nodeKey b)
+    → (eqb (e .kind) kind && (c && (u && v))) ≡ rowOf s t seat kind a b j
 unfolding rowOf
-row-is s t mark kind a b j e x y u v q f g m n = rw (m, n, f, g, q) refl
+row-is s t seat kind a b j e x y c u v q f g p m n = rw (p, m, n, f, g, q) refl
 
 -- ---- relations between named identities
 
@@ -361,8 +364,7 @@ module _ (g : View) (side : Side) (p d f : ℕ) (ws : List ℕ) (m : ℕ) (l : l
 pub office-by : (s : List ℕ) (h : Header) (office n : ℕ) → h ≡ headerOf s → n ≡ badOffice h office → n ≡ badOffice (headerOf s) office
 office-by s h office n e q = q ∙ ap (λ (x : Header). badOffice x office) e
 
-pub told-yes : (s : List ℕ) (k office : ℕ) (side : Side) (p d f : ℕ) (ws : List ℕ) (r : Bool) → office ≡ suc k → r ≡ isPath (seenAt s (suc k)) side p d f ws → r ≡ true → 1 ≡ numberOf (isPath (seenAt s office) side p d f ws)
-told-yes s k office side p d f ws r o e t = ap numberOf (sym t ∙ e ∙ ap (λ (x : ℕ). isPath (seenAt s x) side p d f ws) (sym o))
-
-pub told-no : (s : List ℕ) (k office : ℕ) (side : Side) (p d f : ℕ) (ws : List ℕ) (r : Bool) → office ≡ suc k → r ≡ isPath (seenAt s (suc k)) side p d f ws → r ≡ false → 0 ≡ numberOf (isPath (seenAt s office) side p d f ws)
-told-no s k office side p d f ws r o e t = ap numberOf (sym t ∙ e ∙ ap (λ (x : ℕ). isPath (seenAt s x) side p d f ws) (sym o))
+-- what is seen from the seat is what the question is about
+pub told-so : (s ws : List ℕ) (q : Question) (seat : Seat) (r b : Bool) → seat ≡ seatFor q → r ≡ isPath (seenFrom s seat) (sideOf (q .kind)) (q .person) (q .deed) (q .folio) ws → r ≡ b
+    → numberOf b ≡ numberOf (isPath (asked s q) (sideOf (q .kind)) (q .person) (q .deed) (q .folio) ws)
+told-so s ws q seat r b o e t = ap numberOf (sym t ∙ e ∙ ap (λ (x : Seat). isPath (seenFrom s x) (sideOf (q .kind)) (q .person) (q .deed) (q .folio) ws) o)

@@ -1,6 +1,6 @@
 -- Question 4: what the inner functions tell of a lent list of words. Number and variant of category j are the words 2 + 2 * j and 3 + 2 * j.
 -- Assumes nothing.
-use Prim.Native.Nat.{ℕ, zero, suc, _+_, _*_, _/_, _%_}
+use Prim.Native.Nat.{ℕ, zero, suc, _+_, _*_}
 use mathlib.Core.Bool.{Bool, false, not, _&&_, _||_, Bool·beq}
 use mathlib.Core.List.{List, [], _∷_}
 use lib.ListN.{getD}
@@ -8,14 +8,16 @@ use Rattle.tables.specs.Key.{sameKey}
 use Rattle.tables.specs.Office.{View}
 use Rattle.paths.specs.Leads.{among, leads}
 use Rattle.sheet.specs.declared.Node.{Node}
+use Rattle.sheet.specs.declared.Seat.{Seat}
 use Rattle.sheet.specs.Refusals.{_is_}
 use Rattle.sheet.specs.Rows.{edgeAt, nodeKey, nodeKeyAt}
+use Rattle.sheet.specs.Seats.{countsAt}
 use Rattle.meaning.specs.Paths.{Side, step, carries}
 
--- row j of the edge table t has the kind and the mark and runs from one identity to the other
-unfoldable pub rowOf : List ℕ → List ℕ → ℕ → ℕ → Node → Node → ℕ → Bool
-rowOf s t mark kind a b j =
-    edgeAt t j .kind is kind && ((edgeAt t j .offices / mark % 2) is 1 && (sameKey (nodeKeyAt s (edgeAt t j .from)) (nodeKey a) && sameKey (nodeKeyAt s (edgeAt t j .to)) (nodeKey b)))
+-- row j of the edge table t has the kind, counts for the seat, and runs from one identity to the other
+unfoldable pub rowOf : List ℕ → List ℕ → Seat → ℕ → Node → Node → ℕ → Bool
+rowOf s t seat kind a b j =
+    edgeAt t j .kind is kind && (countsAt seat (edgeAt t j) && (sameKey (nodeKeyAt s (edgeAt t j .from)) (nodeKey a) && sameKey (nodeKeyAt s (edgeAt t j .to)) (nodeKey b)))
 
 -- every second word, m of them from a place on
 abbrev pub everySecond : List ℕ → ℕ → ℕ → List ℕ

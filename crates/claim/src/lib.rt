@@ -3,60 +3,60 @@ use question::Answer;
 use question::Question;
 use sheet::Header;
 use sheet::Node;
+use sheet::Seat;
 ghost use mathlib.Core.Path.{_≡_};
-ghost use Prim.Native.Nat.{suc, _+_, _*_, _<_, _≤_};
+ghost use Prim.Native.Nat.{_+_, _*_, _<_, _≤_};
 ghost use lib.ListN.{length, getD};
 ghost use Rattle.tables.specs.Count.{numberOf};
 ghost use Rattle.tables.specs.Key.{relation};
 ghost use Rattle.sheet.specs.Rows.{headerOf, nodeKey};
 ghost use Rattle.sheet.specs.Accepted.{WellFormed};
-ghost use Rattle.sheet.specs.Named.{seenAt};
+ghost use Rattle.sheet.specs.Seats.{Seated, seenFrom};
 ghost use Rattle.meaning.specs.Paths.{member, step, carries, isPath};
-ghost use Rattle.question.specs.Asked.{badOffice, plain, sideOf};
+ghost use Rattle.question.specs.Asked.{asked, badOffice, plain, sideOf};
 ghost use Rattle.question.specs.Replies.{Replies};
-ghost use Rattle.question.specs.Checked.{AtOffice};
+ghost use Rattle.question.specs.Checked.{AtSeat};
 ghost use Rattle.claim.specs.Listed.{rowOf, hasSecond, framed, wayFrom, goesOn};
 ghost use Rattle.claim.specs.Promises.{TellsPath};
 
-// Whether an edge row has the kind and the mark and runs from one identity to the other.
+// Whether an edge row has the kind, counts for the seat, and runs from one identity to the other.
 fn is_row_of(
     sheet: &[u32],
     edges: &[u32],
     h: Header,
-    mark: u32,
+    seat: Seat,
     kind: u32,
     a: Node,
     b: Node,
     j: usize,
 ) -> bool
-    requires { ⌜ WellFormed (now sheet) (now edges) h × (0 < mark) × (j < h .edges) ⌝ }
-    ensures { λ r. ⌜ r ≡ rowOf (now (sheet .entry)) (now (edges .entry)) mark kind a b j ⌝ }
+    requires { ⌜ WellFormed (now sheet) (now edges) h × Seated seat × (j < h .edges) ⌝ }
+    ensures { λ r. ⌜ r ≡ rowOf (now (sheet .entry)) (now (edges .entry)) seat kind a b j ⌝ }
 {
     let e = sheet::edge_at(edges, h, j);
     let from = sheet::node_at(sheet, e.from as usize);
     let to = sheet::node_at(sheet, e.to as usize);
-    (e.kind == kind)
-        & ((e.offices / mark % 2 == 1) & (sheet::same_node(from, a) & sheet::same_node(to, b)))
+    let counts = sheet::counts(seat, e);
+    (e.kind == kind) & (counts & (sheet::same_node(from, a) & sheet::same_node(to, b)))
 }
 
-// Whether office k + 1 has the relation of a kind between two identities.
+// Whether a relation of a kind between two identities is seen from the seat.
 fn is_related(
     sheet: &[u32],
     edges: &[u32],
     h: Header,
-    k: u32,
-    mark: u32,
+    seat: Seat,
     kind: u32,
     a: Node,
     b: Node,
 ) -> bool
-    requires { ⌜ AtOffice (now sheet) (now edges) h k mark ⌝ }
-    ensures { λ r. ⌜ r ≡ seenAt (now (sheet .entry)) (suc k) .edge (relation kind (nodeKey a) (nodeKey b)) ⌝ }
+    requires { ⌜ AtSeat (now sheet) (now edges) h seat ⌝ }
+    ensures { λ r. ⌜ r ≡ seenFrom (now (sheet .entry)) seat .edge (relation kind (nodeKey a) (nodeKey b)) ⌝ }
 {
     let n = h.edges as usize;
     let mut j: usize = 0;
     while j < n {
-        if is_row_of(sheet, edges, h, mark, kind, a, b, j) {
+        if is_row_of(sheet, edges, h, seat, kind, a, b, j) {
             return true;
         }
         j += 1;
@@ -65,35 +65,26 @@ fn is_related(
 }
 
 // Whether the person is a member of the category.
-fn is_member(sheet: &[u32], edges: &[u32], h: Header, k: u32, mark: u32, p: u32, c: u32) -> bool
-    requires { ⌜ AtOffice (now sheet) (now edges) h k mark ⌝ }
-    ensures { λ r. ⌜ r ≡ member (seenAt (now (sheet .entry)) (suc k)) p c ⌝ }
+fn is_member(sheet: &[u32], edges: &[u32], h: Header, seat: Seat, p: u32, c: u32) -> bool
+    requires { ⌜ AtSeat (now sheet) (now edges) h seat ⌝ }
+    ensures { λ r. ⌜ r ≡ member (seenFrom (now (sheet .entry)) seat) p c ⌝ }
 {
     let a = sheet::named(1, p, 0);
     let b = sheet::named(2, c, 0);
-    is_related(sheet, edges, h, k, mark, 1, a, b)
+    is_related(sheet, edges, h, seat, 1, a, b)
 }
 
 // Whether a side's paths lead from the one category to the other.
-fn is_step(
-    sheet: &[u32],
-    edges: &[u32],
-    h: Header,
-    k: u32,
-    mark: u32,
-    kind: u32,
-    c: u32,
-    d: u32,
-) -> bool
-    requires { ⌜ AtOffice (now sheet) (now edges) h k mark ⌝ }
-    ensures { λ r. ⌜ r ≡ step (seenAt (now (sheet .entry)) (suc k)) (sideOf kind) c d ⌝ }
+fn is_step(sheet: &[u32], edges: &[u32], h: Header, seat: Seat, kind: u32, c: u32, d: u32) -> bool
+    requires { ⌜ AtSeat (now sheet) (now edges) h seat ⌝ }
+    ensures { λ r. ⌜ r ≡ step (seenFrom (now (sheet .entry)) seat) (sideOf kind) c d ⌝ }
 {
     let a = sheet::named(2, c, 0);
     let b = sheet::named(2, d, 0);
     if kind == 0 {
-        return is_related(sheet, edges, h, k, mark, 2, a, b);
+        return is_related(sheet, edges, h, seat, 2, a, b);
     }
-    is_related(sheet, edges, h, k, mark, 2, b, a)
+    is_related(sheet, edges, h, seat, 2, b, a)
 }
 
 // Whether a category has the side's right on the question's deed in the variant, which applies to the folio.
@@ -101,21 +92,19 @@ fn is_carried(
     sheet: &[u32],
     edges: &[u32],
     h: Header,
-    k: u32,
-    mark: u32,
+    seat: Seat,
     q: Question,
     v: u32,
     c: u32,
 ) -> bool
-    requires { ⌜ AtOffice (now sheet) (now edges) h k mark ⌝ }
-    ensures { λ r. ⌜ r ≡ carries (seenAt (now (sheet .entry)) (suc k)) (sideOf (q .kind)) (q .deed) v (q .folio) c ⌝ }
+    requires { ⌜ AtSeat (now sheet) (now edges) h seat ⌝ }
+    ensures { λ r. ⌜ r ≡ carries (seenFrom (now (sheet .entry)) seat) (sideOf (q .kind)) (q .deed) v (q .folio) c ⌝ }
 {
     let right = question::right_of(q.kind);
     let a = sheet::named(2, c, 0);
     let b = sheet::named(3, q.deed, v);
     let t = sheet::named(4, q.folio, 0);
-    is_related(sheet, edges, h, k, mark, right, a, b)
-        & is_related(sheet, edges, h, k, mark, 5, b, t)
+    is_related(sheet, edges, h, seat, right, a, b) & is_related(sheet, edges, h, seat, 5, b, t)
 }
 
 // Whether one of every second word, m of them from a place on, is c, or is not c where `same` is false.
@@ -151,22 +140,21 @@ fn is_onward(
     sheet: &[u32],
     edges: &[u32],
     h: Header,
-    k: u32,
-    mark: u32,
+    seat: Seat,
     kind: u32,
     list: &[u32],
     at: usize,
     m: usize,
 ) -> bool
-    requires { ⌜ AtOffice (now sheet) (now edges) h k mark × (0 < m) × (at + 2 + 2 * m ≤ length (now list)) ⌝ }
-    ensures { λ r. ⌜ r ≡ goesOn (seenAt (now (sheet .entry)) (suc k)) (sideOf kind) (now (list .entry)) at m ⌝ }
+    requires { ⌜ AtSeat (now sheet) (now edges) h seat × (0 < m) × (at + 2 + 2 * m ≤ length (now list)) ⌝ }
+    ensures { λ r. ⌜ r ≡ goesOn (seenFrom (now (sheet .entry)) seat) (sideOf kind) (now (list .entry)) at m ⌝ }
 {
     let c = list[at];
     let d = list[at + 2];
     if has_second(list, at + 2, m, c, true) {
         return false;
     }
-    is_step(sheet, edges, h, k, mark, kind, c, d)
+    is_step(sheet, edges, h, seat, kind, c, d)
 }
 
 // Whether the first category leads by the m after it, all distinct, to one with the right. The way is tried from its end, so that a list of any length costs no more turns than there are categories.
@@ -174,43 +162,41 @@ fn is_way(
     sheet: &[u32],
     edges: &[u32],
     h: Header,
-    k: u32,
-    mark: u32,
+    seat: Seat,
     q: Question,
     list: &[u32],
     m: usize,
 ) -> bool
-    requires { ⌜ AtOffice (now sheet) (now edges) h k mark × (length (now list) ≡ 8 + 2 * m) ⌝ }
-    ensures { λ r. ⌜ r ≡ wayFrom (seenAt (now (sheet .entry)) (suc k)) (sideOf (q .kind)) (q .deed) (getD (now (list .entry)) (5 + 2 * m) 0) (q .folio) (now (list .entry)) 2 m ⌝ }
+    requires { ⌜ AtSeat (now sheet) (now edges) h seat × (length (now list) ≡ 8 + 2 * m) ⌝ }
+    ensures { λ r. ⌜ r ≡ wayFrom (seenFrom (now (sheet .entry)) seat) (sideOf (q .kind)) (q .deed) (getD (now (list .entry)) (5 + 2 * m) 0) (q .folio) (now (list .entry)) 2 m ⌝ }
 {
     let v = list[5 + 2 * m];
     let c = list[2 + 2 * m];
-    if !is_carried(sheet, edges, h, k, mark, q, v, c) {
+    if !is_carried(sheet, edges, h, seat, q, v, c) {
         return false;
     }
     let mut n: usize = 0;
     while n < m {
         let at = 2 * (m - n);
         n += 1;
-        if !is_onward(sheet, edges, h, k, mark, q.kind, list, at, n) {
+        if !is_onward(sheet, edges, h, seat, q.kind, list, at, n) {
             return false;
         }
     }
     true
 }
 
-// Whether the words are some path of office k + 1.
+// Whether the words are some path that is seen from the seat.
 fn is_path_at(
     sheet: &[u32],
     edges: &[u32],
     h: Header,
-    k: u32,
-    mark: u32,
+    seat: Seat,
     q: Question,
     list: &[u32],
 ) -> bool
-    requires { ⌜ AtOffice (now sheet) (now edges) h k mark ⌝ }
-    ensures { λ r. ⌜ r ≡ isPath (seenAt (now (sheet .entry)) (suc k)) (sideOf (q .kind)) (q .person) (q .deed) (q .folio) (now (list .entry)) ⌝ }
+    requires { ⌜ AtSeat (now sheet) (now edges) h seat ⌝ }
+    ensures { λ r. ⌜ r ≡ isPath (seenFrom (now (sheet .entry)) seat) (sideOf (q .kind)) (q .person) (q .deed) (q .folio) (now (list .entry)) ⌝ }
 {
     let n = list.len();
     if (n < 8) | (n % 2 == 1) {
@@ -223,24 +209,23 @@ fn is_path_at(
     if has_second(list, 3, m + 1, 0, false) {
         return false;
     }
-    if !is_member(sheet, edges, h, k, mark, q.person, list[2]) {
+    if !is_member(sheet, edges, h, seat, q.person, list[2]) {
         return false;
     }
-    is_way(sheet, edges, h, k, mark, q, list, m)
+    is_way(sheet, edges, h, seat, q, list, m)
 }
 
 // Question 4 on a sheet that was checked.
 fn is_path_checked(sheet: &[u32], edges: &[u32], h: Header, q: Question, list: &[u32]) -> Answer
     requires { ⌜ WellFormed (now sheet) (now edges) h ⌝ }
-    ensures { λ a. ⌜ Replies (plain (badOffice (headerOf (now (sheet .entry))) (q .office))) (λ value count. (value ≡ numberOf (isPath (seenAt (now (sheet .entry)) (q .office)) (sideOf (q .kind)) (q .person) (q .deed) (q .folio) (now (list .entry)))) × (count ≡ 0)) a ⌝ }
+    ensures { λ a. ⌜ Replies (plain (badOffice (headerOf (now (sheet .entry))) (q .office))) (λ value count. (value ≡ numberOf (isPath (asked (now (sheet .entry)) q) (sideOf (q .kind)) (q .person) (q .deed) (q .folio) (now (list .entry)))) × (count ≡ 0)) a ⌝ }
 {
     let n = question::bad_office(h, q.office);
     if n != 0 {
         return question::refused_by(n);
     }
-    let k = q.office - 1;
-    let mark = question::mark_of(k);
-    if is_path_at(sheet, edges, h, k, mark, q, list) {
+    let seat = question::seat_at(q.office);
+    if is_path_at(sheet, edges, h, seat, q, list) {
         return question::told(1, 0);
     }
     question::told(0, 0)

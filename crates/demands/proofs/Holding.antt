@@ -25,7 +25,7 @@ use Rattle.meaning.proofs.Sites.{union-nodes, union-edges}
 use Rattle.meaning.proofs.Unique.{witness-one, persons-one, holders-one, unreached-one, least-both-one, least-pair-one, redundant-one}
 use Rattle.question.specs.declared.Question.{Question}
 use Rattle.question.specs.declared.Answer.{Answer}
-use Rattle.question.specs.Asked.{sideOf}
+use Rattle.question.specs.Asked.{asked, sideOf}
 use Rattle.lookup.proofs.Looking.{both-accepted}
 use Rattle.ask.specs.Promises.{WitnessOf}
 use Rattle.opened.specs.declared.Which.{Which}
@@ -74,13 +74,13 @@ pub demand-1 : Demand1
 demand-1 = record {
   question-1 = λ s q x. sheet-says s _ _ x;
   question-2 = λ s q x. sheet-says s _ _ x;
-  question-3 = λ s q out x. shows-keep _ _ (witness-one (seenAt s (q .office)) (sideOf (q .kind)) (q .person) (q .deed) (q .folio)) out x;
+  question-3 = λ s q out x. shows-keep _ _ (witness-one (asked s q) (sideOf (q .kind)) (q .person) (q .deed) (q .folio)) out x;
   question-4 = λ s q list x. sheet-says s _ _ x;
-  question-5 = λ s q out x. shows-keep _ _ (persons-one (seenAt s (q .office)) (q .category)) out x;
-  question-6 = λ s q out x. shows-keep _ _ (holders-one (seenAt s (q .office)) (q .deed) (q .folio)) out x;
-  question-7 = λ s q out x. shows-keep _ _ (unreached-one (seenAt s (q .office))) out x;
-  question-8 = λ s q out x. shows-keep _ _ (least-both-one (seenAt s (q .office))) out x;
-  question-9 = λ s q out x. shows-keep _ _ (least-pair-one (seenAt s (q .office)) (q .deed) (q .other)) out x;
+  question-5 = λ s q out x. shows-keep _ _ (persons-one (asked s q) (q .category)) out x;
+  question-6 = λ s q out x. shows-keep _ _ (holders-one (asked s q) (q .deed) (q .folio)) out x;
+  question-7 = λ s q out x. shows-keep _ _ (unreached-one (asked s q)) out x;
+  question-8 = λ s q out x. shows-keep _ _ (least-both-one (asked s q)) out x;
+  question-9 = λ s q out x. shows-keep _ _ (least-pair-one (asked s q) (q .deed) (q .other)) out x;
   question-10 = λ s q out x. shows-keep _ _ (redundant-one s (q .office)) out x;
   take-out = λ s office out x. shows-keep _ _ (taken-one s (office - 1) 1) out x;
   join = λ a b out x. joins-keep a b out x;
@@ -88,7 +88,7 @@ demand-1 = record {
   opened = as-words;
   counter-1 = λ f q x. file-says f _ _ x;
   counter-2 = λ f q x. file-says f _ _ x;
-  counter-3 = λ f q out x. shows-keep _ _ (bytes-one (WitnessOf (wordsOf f) q) (witness-one (seenAt (wordsOf f) (q .office)) (sideOf (q .kind)) (q .person) (q .deed) (q .folio))) out x;
+  counter-3 = λ f q out x. shows-keep _ _ (bytes-one (WitnessOf (wordsOf f) q) (witness-one (asked (wordsOf f) q) (sideOf (q .kind)) (q .person) (q .deed) (q .folio))) out x;
   look-up = look;
   look-up-place = lookup-says;
 }
@@ -97,7 +97,7 @@ pub demand-2 : Demand2
 demand-2 = record {
   answers = λ after s q x z.
       let p = told-is _ _ x z .0 in
-      (four (seenAt s (q .office)) (q .person) (q .deed) (q .folio) _ p, gives-exactly (seenAt s (q .office)) (q .person) (q .deed) (q .folio) _ p);
+      (four (asked s q) (q .person) (q .deed) (q .folio) _ p, gives-exactly (asked s q) (q .person) (q .deed) (q .folio) _ p);
   side-first = λ after s q x z. side-decides (seenAt s) (officesOf s) (q .person) (q .deed) (q .folio) (q .rule) _ _ (told-is _ _ x z);
   order-first = λ after s q x z. first-decided (seenAt s) (officesOf s) (q .person) (q .deed) (q .folio) (q .rule) _ _ (told-is _ _ x z);
   priority = λ after s q x z. by-priority (seenAt s) (officesOf s) (q .person) (q .deed) (q .folio) (q .rule) _ _ (told-is _ _ x z);
@@ -120,13 +120,13 @@ demand-2 = record {
     front-is _ _ out x,
     λ z.
         let w = missing-only _ _ out z x in
-        (λ e. none-least 3 (BothAt (seenAt s (q .office))) (λ ws y. ap length (y .words)) (w .0 e), λ u. w .1 (λ ws y. u ws (y .holds))),
+        (λ e. none-least 3 (BothAt (asked s q)) (λ ws y. ap length (y .words)) (w .0 e), λ u. w .1 (λ ws y. u ws (y .holds))),
   );
   least-pair = λ s q out x. (
     front-is _ _ out x,
     λ z.
         let w = missing-only _ _ out z x in
-        (λ e. none-least 2 (HoldsBoth (seenAt s (q .office)) (q .deed) (q .other)) (λ ws y. ap length (y .words)) (w .0 e), λ u. w .1 (λ ws y. u ws (y .holds))),
+        (λ e. none-least 2 (HoldsBoth (asked s q) (q .deed) (q .other)) (λ ws y. ap length (y .words)) (w .0 e), λ u. w .1 (λ ws y. u ws (y .holds))),
   );
 }
 

@@ -25,7 +25,7 @@ use Rattle.meaning.specs.Join.{officesOf, IsJoin, IsTaken}
 use Rattle.meaning.specs.Source.{Authorised, Prior, Yields, Applicable}
 use Rattle.question.specs.declared.Question.{Question}
 use Rattle.question.specs.declared.Answer.{Answer}
-use Rattle.question.specs.Asked.{badOffice, askFault, jointFault, plain, afterSheet, sideOf}
+use Rattle.question.specs.Asked.{asked, badOffice, askFault, jointFault, plain, afterSheet, sideOf}
 use Rattle.question.specs.Replies.{tells, Shows}
 use Rattle.ask.specs.Promises.{AnswersAtOffice, AnswersJointly, WitnessOf, Witnesses, atFirst}
 use Rattle.claim.specs.Promises.{TellsPath}
@@ -88,15 +88,15 @@ pub record Demand1 : Type 0 where
   -- it refuses only for the sheet and office
   pub question-4 : (s : List ℕ) (q : Question) (list : List ℕ) {a : Answer} → TellsPath s q list a → saidIn a ≡ afterSheet s (badOffice (headerOf s) (q .office))
   pub question-5 : (s : List ℕ) (q : Question) (out : List ℕ) {a : Answer} {out′ : List ℕ} → ListsPersons s q out a out′
-      → KeepsTable (afterSheet s) (badOffice (headerOf s) (q .office) orElse unknownCategory s q) (PersonsAre (seenAt s (q .office)) (q .category)) out a out′
+      → KeepsTable (afterSheet s) (badOffice (headerOf s) (q .office) orElse unknownCategory s q) (PersonsAre (asked s q) (q .category)) out a out′
   pub question-6 : (s : List ℕ) (q : Question) (out : List ℕ) {a : Answer} {out′ : List ℕ} → ListsHolders s q out a out′
-      → KeepsTable (afterSheet s) (badOffice (headerOf s) (q .office) orElse unknownRight s q) (HoldersAre (seenAt s (q .office)) (q .deed) (q .folio)) out a out′
+      → KeepsTable (afterSheet s) (badOffice (headerOf s) (q .office) orElse unknownRight s q) (HoldersAre (asked s q) (q .deed) (q .folio)) out a out′
   pub question-7 : (s : List ℕ) (q : Question) (out : List ℕ) {a : Answer} {out′ : List ℕ} → ListsUnreached s q out a out′
-      → KeepsTable (afterSheet s) (badOffice (headerOf s) (q .office)) (UnreachedAre (seenAt s (q .office))) out a out′
+      → KeepsTable (afterSheet s) (badOffice (headerOf s) (q .office)) (UnreachedAre (asked s q)) out a out′
   pub question-8 : (s : List ℕ) (q : Question) (out : List ℕ) {a : Answer} {out′ : List ℕ} → ShowsLeastBoth s q out a out′
-      → KeepsTable (afterSheet s) (badOffice (headerOf s) (q .office)) (LeastBothIs (seenAt s (q .office))) out a out′
+      → KeepsTable (afterSheet s) (badOffice (headerOf s) (q .office)) (LeastBothIs (asked s q)) out a out′
   pub question-9 : (s : List ℕ) (q : Question) (out : List ℕ) {a : Answer} {out′ : List ℕ} → ShowsLeastPair s q out a out′
-      → KeepsTable (afterSheet s) (badOffice (headerOf s) (q .office) orElse badPair s q) (LeastPairIs (seenAt s (q .office)) (q .deed) (q .other)) out a out′
+      → KeepsTable (afterSheet s) (badOffice (headerOf s) (q .office) orElse badPair s q) (LeastPairIs (asked s q) (q .deed) (q .other)) out a out′
   pub question-10 : (s : List ℕ) (q : Question) (out : List ℕ) {a : Answer} {out′ : List ℕ} → ListsRedundant s q out a out′
       → KeepsTable (afterSheet s) (badOffice (headerOf s) (q .office)) (RedundantAre s (q .office)) out a out′
   pub take-out : (s : List ℕ) (office : ℕ) (out : List ℕ) {a : Answer} {out′ : List ℕ} → TakesOut s office out a out′
@@ -128,13 +128,13 @@ jointIn a = record { answer = a .value; office = a .count }
 
 -- words are a grant or ban path as the question names it, at the office asked
 abbrev pub PathOf : List ℕ → Question → List ℕ → Type 0
-PathOf s q ws = isPath (seenAt s (q .office)) (sideOf (q .kind)) (q .person) (q .deed) (q .folio) ws ≡ true
+PathOf s q ws = isPath (asked s q) (sideOf (q .kind)) (q .person) (q .deed) (q .folio) ws ≡ true
 
 pub record Demand2 : Type 0 where
   -- of words or, by the counter, of a file's bytes: `after` is what is refused before the question's own refusal
   -- granted, banned, both or undetermined: an office grants exactly where (a1) has it, and bans exactly where (a2) does
   pub answers : (after : ℕ → Refusal) (s : List ℕ) (q : Question) {a : Answer} → AnswersAtOffice after s q a → a .number ≡ 0
-      → (a .value < 4) × ((side : Side) → (gives side (a .value) ≡ true) ↔ Authorised (seenAt s (q .office)) side (q .person) (q .deed) (q .folio))
+      → (a .value < 4) × ((side : Side) → (gives side (a .value) ≡ true) ↔ Authorised (asked s q) side (q .person) (q .deed) (q .folio))
   -- grant-first (rule 1) and deny-first (rule 2): their side where some office has it, else the other where some office has that, else undetermined; decided by the lowest office that has it, 0 where undetermined
   pub side-first : (after : ℕ → Refusal) (s : List ℕ) (q : Question) {a : Answer} → AnswersJointly after s q a → a .number ≡ 0 → (side : Side) → q .rule ≡ told side
       → SideFirst (seenAt s) (officesOf s) (q .person) (q .deed) (q .folio) side (jointIn a)
@@ -163,17 +163,17 @@ pub record Demand2 : Type 0 where
   pub is-path : (s : List ℕ) (q : Question) (list : List ℕ) {a : Answer} → TellsPath s q list a → a .number ≡ 0
       → ((a .value ≡ 1) ↔ PathOf s q list) × ((a .value ≡ 0) ↔ (PathOf s q list → ⊥))
   -- the lists are exactly these, rising
-  pub persons : (s : List ℕ) (q : Question) (out : List ℕ) {a : Answer} {out′ : List ℕ} → ListsPersons s q out a out′ → a .number ≡ 0 → PersonsAre (seenAt s (q .office)) (q .category) (front a out′)
-  pub holders : (s : List ℕ) (q : Question) (out : List ℕ) {a : Answer} {out′ : List ℕ} → ListsHolders s q out a out′ → a .number ≡ 0 → HoldersAre (seenAt s (q .office)) (q .deed) (q .folio) (front a out′)
-  pub unreached : (s : List ℕ) (q : Question) (out : List ℕ) {a : Answer} {out′ : List ℕ} → ListsUnreached s q out a out′ → a .number ≡ 0 → UnreachedAre (seenAt s (q .office)) (front a out′)
+  pub persons : (s : List ℕ) (q : Question) (out : List ℕ) {a : Answer} {out′ : List ℕ} → ListsPersons s q out a out′ → a .number ≡ 0 → PersonsAre (asked s q) (q .category) (front a out′)
+  pub holders : (s : List ℕ) (q : Question) (out : List ℕ) {a : Answer} {out′ : List ℕ} → ListsHolders s q out a out′ → a .number ≡ 0 → HoldersAre (asked s q) (q .deed) (q .folio) (front a out′)
+  pub unreached : (s : List ℕ) (q : Question) (out : List ℕ) {a : Answer} {out′ : List ℕ} → ListsUnreached s q out a out′ → a .number ≡ 0 → UnreachedAre (asked s q) (front a out′)
   pub redundant : (s : List ℕ) (q : Question) (out : List ℕ) {a : Answer} {out′ : List ℕ} → ListsRedundant s q out a out′ → a .number ≡ 0 → RedundantAre s (q .office) (front a out′)
   -- the least triple and the least pair, refused by 26 only where there is none
   pub least-both : (s : List ℕ) (q : Question) (out : List ℕ) {a : Answer} {out′ : List ℕ} → ShowsLeastBoth s q out a out′
-      → (a .number ≡ 0 → LeastBothIs (seenAt s (q .office)) (front a out′))
-      × (afterSheet s (badOffice (headerOf s) (q .office)) .number ≡ 0 → (a .number ≡ 26) ↔ ((ws : List ℕ) → BothAt (seenAt s (q .office)) ws → ⊥))
+      → (a .number ≡ 0 → LeastBothIs (asked s q) (front a out′))
+      × (afterSheet s (badOffice (headerOf s) (q .office)) .number ≡ 0 → (a .number ≡ 26) ↔ ((ws : List ℕ) → BothAt (asked s q) ws → ⊥))
   pub least-pair : (s : List ℕ) (q : Question) (out : List ℕ) {a : Answer} {out′ : List ℕ} → ShowsLeastPair s q out a out′
-      → (a .number ≡ 0 → LeastPairIs (seenAt s (q .office)) (q .deed) (q .other) (front a out′))
-      × (afterSheet s (badOffice (headerOf s) (q .office) orElse badPair s q) .number ≡ 0 → (a .number ≡ 26) ↔ ((ws : List ℕ) → HoldsBoth (seenAt s (q .office)) (q .deed) (q .other) ws → ⊥))
+      → (a .number ≡ 0 → LeastPairIs (asked s q) (q .deed) (q .other) (front a out′))
+      × (afterSheet s (badOffice (headerOf s) (q .office) orElse badPair s q) .number ≡ 0 → (a .number ≡ 26) ↔ ((ws : List ℕ) → HoldsBoth (asked s q) (q .deed) (q .other) ws → ⊥))
 
 -- ==== Demand 3: any two well-formed one-office sheets whose union keeps the limits and fits the buffer join into that union, each identity and relation once, marked by office
 

@@ -2,7 +2,7 @@
 -- Assumes nothing.
 use Prim.Native.Nat.{ℕ, _<_}
 use mathlib.Core.Path.{_≡_, ap, _∙_}
-use mathlib.Core.Bool.{true, false}
+use mathlib.Core.Bool.{true}
 use mathlib.Core.List.{List}
 use lib.Dec.{eqb}
 use lib.ListN.{length, getD}
@@ -10,13 +10,14 @@ use borrow.Author.Tests.{eqb-true, eq-eqb}
 use Rattle.tables.specs.Count.{numberOf}
 use Rattle.sheet.specs.declared.Header.{Header}
 use Rattle.sheet.specs.declared.Node.{Node}
+use Rattle.sheet.specs.declared.Seat.{Seat}
 use Rattle.sheet.specs.Limits.{maxNodes}
 use Rattle.sheet.specs.Rows.{nodeAt}
 use Rattle.paths.specs.Steps.{Layers, Starts}
 use Rattle.paths.proofs.Tests.{and-left, and-right, both}
 use Rattle.walk.specs.declared.Walk.{Walk}
 use Rattle.walk.specs.Arcs.{Steps, walkOf, Arranged}
-use Rattle.question.specs.Checked.{AtOffice}
+use Rattle.question.specs.Checked.{AtSeat}
 use Rattle.reach.specs.Reaching.{LeadsTo, ByDeed}
 use Rattle.least.specs.Least.{Prepared, starting, DeedStarts, RowsByDeed}
 use Rattle.reach.proofs.Marking.{some-number, number-some, starts-tell}
@@ -48,6 +49,7 @@ rows-by s t h w d number r₀ r e st y = record { long = e; each = λ i l. start
     to : {i : ℕ} → ByDeed s t h w d number i → (x : ℕ) × (x < h .nodes) × (starting (nodeAt s x) (getD d x 0) number ≡ true) × LeadsTo s t h w x i
     to b = (b .row, b .inside, is-starting (nodeAt s (b .row)) (getD d (b .row) 0) number (b .class) (b .numbered) (b .marked-so), b .leads)
 
--- a walk for any deed, and its arcs in order
-pub prepared : (s t : List ℕ) (h : Header) (k mark right : ℕ) → AtOffice s t h k mark → (w : Walk) → w ≡ walkOf mark right 0 → (index : List ℕ) → Arranged s t h w index → Prepared s t h k right w index
-prepared s t h k mark right at w e index a = record { walks = e ∙ ap (λ (m : ℕ). walkOf m right 0) (at .mark-is); some = rw e (at .mark-some); arranged = a }
+-- a walk for any deed from the seat of another, and its arcs in order
+pub prepared : (s t : List ℕ) (h : Header) (seat : Seat) → AtSeat s t h seat → (v : Walk) (other : ℕ) → v ≡ walkOf seat other 0 → (w : Walk) (right : ℕ) → w ≡ walkOf seat right 0
+    → (index : List ℕ) → Arranged s t h w index → Prepared s t h (v .seat) right w index
+prepared s t h seat at v other q w right e index a = rw q (record { walks = e; seated = rw e (at .seated); arranged = a })

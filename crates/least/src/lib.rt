@@ -2,22 +2,23 @@
 use question::Question;
 use sheet::Header;
 use sheet::Node;
+use sheet::Seat;
 use walk::Walk;
 ghost use mathlib.Core.Path.{_≡_};
 ghost use mathlib.Core.Bool.{true, false, _&&_, not};
-ghost use Prim.Native.Nat.{ℕ, suc, _<_, _≤_};
-ghost use lib.ListN.{length, getD};
+ghost use Prim.Native.Nat.{_<_, _≤_};
+ghost use lib.ListN.{length};
 ghost use mathlib.Core.List.{[], _∷_};
 ghost use Rattle.tables.specs.Count.{numberOf};
 ghost use Rattle.sheet.specs.Limits.{maxNodes, maxEdges};
 ghost use Rattle.sheet.specs.Refusals.{_is_};
 ghost use Rattle.sheet.specs.Rows.{nodeAt};
 ghost use Rattle.sheet.specs.Accepted.{NodesFormed, WellFormed};
-ghost use Rattle.sheet.specs.Named.{seenAt};
+ghost use Rattle.sheet.specs.Seats.{Seated, seenFrom};
 ghost use Rattle.walk.specs.Arcs.{Arranged};
 ghost use Rattle.meaning.specs.Questions.{LeastBothIs, LeastPairIs};
 ghost use Rattle.question.specs.Asked.{FirstStanding};
-ghost use Rattle.question.specs.Checked.{AtOffice};
+ghost use Rattle.question.specs.Checked.{AtSeat};
 ghost use Rattle.reach.specs.Found.{Finds};
 ghost use Rattle.least.specs.Least.{Prepared, starting, DeedStarts, RowsByDeed, common, deedIn, repeated, FirstRow, PairRows, Hits};
 
@@ -69,7 +70,7 @@ fn rows_by_deed(
     d: [u32; ROWS],
     number: u32,
 ) -> [u32; ROWS]
-    requires { ⌜ WellFormed (now sheet) (now edges) h × (0 < w .mark) × Arranged (now sheet) (now edges) h w (now index) × (length d ≡ maxNodes) ⌝ }
+    requires { ⌜ WellFormed (now sheet) (now edges) h × Seated (w .seat) × Arranged (now sheet) (now edges) h w (now index) × (length d ≡ maxNodes) ⌝ }
     ensures { λ r. ⌜ RowsByDeed (now (sheet .entry)) (now (edges .entry)) h w d number r ⌝ }
 {
     let mut rows = deed_starts(sheet, h, d, number);
@@ -163,14 +164,13 @@ fn pair_folio(
     sheet: &[u32],
     edges: &[u32],
     h: Header,
-    k: u32,
     q: Question,
     w: Walk,
     index: &[u32],
     i: u32,
 ) -> u32
-    requires { ⌜ WellFormed (now sheet) (now edges) h × Prepared (now sheet) (now edges) h k 3 w (now index) × (i < h .nodes) ⌝ }
-    ensures { λ r. ⌜ FirstRow (PairRows (now (sheet .entry)) k (q .deed) (q .other) i) (h .nodes) r ⌝ }
+    requires { ⌜ WellFormed (now sheet) (now edges) h × Prepared (now sheet) (now edges) h (w .seat) 3 w (now index) × (i < h .nodes) ⌝ }
+    ensures { λ r. ⌜ FirstRow (PairRows (now (sheet .entry)) (w .seat) (q .deed) (q .other) i) (h .nodes) r ⌝ }
 {
     if !is_class(sheet, h, i, 1) {
         return h.nodes;
@@ -207,22 +207,14 @@ fn no_hit() -> Hit
 }
 
 // The least pair in row order, which is that of the numbers.
-fn first_pair(
-    sheet: &[u32],
-    edges: &[u32],
-    h: Header,
-    k: u32,
-    q: Question,
-    w: Walk,
-    index: &[u32],
-) -> Hit
-    requires { ⌜ WellFormed (now sheet) (now edges) h × Prepared (now sheet) (now edges) h k 3 w (now index) ⌝ }
-    ensures { λ r. ⌜ Hits (LeastPairIs (seenAt (now (sheet .entry)) (suc k)) (q .deed) (q .other)) (r .person ∷ r .folio ∷ []) (r .found) ⌝ }
+fn first_pair(sheet: &[u32], edges: &[u32], h: Header, q: Question, w: Walk, index: &[u32]) -> Hit
+    requires { ⌜ WellFormed (now sheet) (now edges) h × Prepared (now sheet) (now edges) h (w .seat) 3 w (now index) ⌝ }
+    ensures { λ r. ⌜ Hits (LeastPairIs (seenFrom (now (sheet .entry)) (w .seat)) (q .deed) (q .other)) (r .person ∷ r .folio ∷ []) (r .found) ⌝ }
 {
     let n = h.nodes;
     let mut i: u32 = 0;
     while i < n {
-        let f = pair_folio(sheet, edges, h, k, q, w, index, i);
+        let f = pair_folio(sheet, edges, h, q, w, index, i);
         if f < n {
             return hit_at(sheet, h, i, 0, f);
         }
@@ -231,22 +223,21 @@ fn first_pair(
     no_hit()
 }
 
-// Question 9 at office k + 1: the least (person, folio) with a grant path for each of two deeds, as two words.
+// Question 9 from the seat: the least (person, folio) with a grant path for each of two deeds, as two words.
 pub fn least_pair(
     sheet: &[u32],
     edges: &[u32],
     h: Header,
-    k: u32,
-    mark: u32,
+    seat: Seat,
     q: Question,
     list: &mut [u32],
 ) -> u32
-    requires { ⌜ AtOffice (now sheet) (now edges) h k mark × (length (now list) ≡ maxEdges) ⌝ }
-    ensures { λ r. ⌜ Finds (LeastPairIs (seenAt (now (sheet .entry)) (suc k)) (q .deed) (q .other)) (now (list .exit)) r ⌝ }
+    requires { ⌜ AtSeat (now sheet) (now edges) h seat × (length (now list) ≡ maxEdges) ⌝ }
+    ensures { λ r. ⌜ Finds (LeastPairIs (seenFrom (now (sheet .entry)) seat) (q .deed) (q .other)) (now (list .exit)) r ⌝ }
 {
-    let w = walk::walk_of(mark, 3, 0);
+    let w = walk::walk_of(seat, 3, 0);
     let index = walk::arranged(sheet, edges, h, w);
-    let hit = first_pair(sheet, edges, h, k, q, w, &index);
+    let hit = first_pair(sheet, edges, h, q, w, &index);
     if !hit.found {
         return reach::NONE;
     }
@@ -260,14 +251,13 @@ fn first_both(
     sheet: &[u32],
     edges: &[u32],
     h: Header,
-    k: u32,
     grants: Walk,
     grantindex: &[u32],
     bans: Walk,
     banindex: &[u32],
 ) -> Hit
-    requires { ⌜ WellFormed (now sheet) (now edges) h × Prepared (now sheet) (now edges) h k 3 grants (now grantindex) × Prepared (now sheet) (now edges) h k 4 bans (now banindex) ⌝ }
-    ensures { λ r. ⌜ Hits (LeastBothIs (seenAt (now (sheet .entry)) (suc k))) (r .person ∷ r .deed ∷ r .folio ∷ []) (r .found) ⌝ }
+    requires { ⌜ WellFormed (now sheet) (now edges) h × Prepared (now sheet) (now edges) h (grants .seat) 3 grants (now grantindex) × Prepared (now sheet) (now edges) h (grants .seat) 4 bans (now banindex) ⌝ }
+    ensures { λ r. ⌜ Hits (LeastBothIs (seenFrom (now (sheet .entry)) (grants .seat))) (r .person ∷ r .deed ∷ r .folio ∷ []) (r .found) ⌝ }
 {
     let n = h.nodes;
     let mut hit = no_hit();
@@ -295,23 +285,16 @@ fn first_both(
     hit
 }
 
-// Question 8 at office k + 1: the least (person, deed, folio) that is Both, as three words.
-pub fn least_both(
-    sheet: &[u32],
-    edges: &[u32],
-    h: Header,
-    k: u32,
-    mark: u32,
-    list: &mut [u32],
-) -> u32
-    requires { ⌜ AtOffice (now sheet) (now edges) h k mark × (length (now list) ≡ maxEdges) ⌝ }
-    ensures { λ r. ⌜ Finds (LeastBothIs (seenAt (now (sheet .entry)) (suc k))) (now (list .exit)) r ⌝ }
+// Question 8 from the seat: the least (person, deed, folio) that is Both, as three words.
+pub fn least_both(sheet: &[u32], edges: &[u32], h: Header, seat: Seat, list: &mut [u32]) -> u32
+    requires { ⌜ AtSeat (now sheet) (now edges) h seat × (length (now list) ≡ maxEdges) ⌝ }
+    ensures { λ r. ⌜ Finds (LeastBothIs (seenFrom (now (sheet .entry)) seat)) (now (list .exit)) r ⌝ }
 {
-    let grants = walk::walk_of(mark, 3, 0);
+    let grants = walk::walk_of(seat, 3, 0);
     let grantindex = walk::arranged(sheet, edges, h, grants);
-    let bans = walk::walk_of(mark, 4, 0);
+    let bans = walk::walk_of(seat, 4, 0);
     let banindex = walk::arranged(sheet, edges, h, bans);
-    let hit = first_both(sheet, edges, h, k, grants, &grantindex, bans, &banindex);
+    let hit = first_both(sheet, edges, h, grants, &grantindex, bans, &banindex);
     if !hit.found {
         return reach::NONE;
     }

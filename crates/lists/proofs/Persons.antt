@@ -11,9 +11,10 @@ use lib.Seq.{getD-set-same, getD-set-other}
 use borrow.Author.Tests.{ltb-true}
 use Rattle.tables.specs.Key.{identity}
 use Rattle.sheet.specs.declared.Header.{Header}
+use Rattle.sheet.specs.declared.Seat.{Seat}
 use Rattle.sheet.specs.Rows.{headerOf, nodeKeyAt}
 use Rattle.sheet.specs.Accepted.{WellFormed}
-use Rattle.sheet.specs.Named.{seenAt}
+use Rattle.sheet.specs.Seats.{seenFrom}
 use Rattle.sheet.proofs.Naming.{ends-seen}
 use Rattle.paths.proofs.Tests.{or-cases}
 use Rattle.paths.proofs.Rounds.{same-or}
@@ -22,10 +23,9 @@ use Rattle.meaning.specs.Forms.{Rising}
 use Rattle.meaning.specs.Questions.{InCategory, PersonsAre, HoldersAre}
 use Rattle.meaning.proofs.Axioms.{a1-a2}
 use Rattle.walk.specs.declared.Walk.{Walk}
-use Rattle.walk.specs.Arcs.{walkOf}
 use Rattle.question.specs.Asked.{FirstStanding, stands, known}
 use Rattle.tables.specs.Count.{someRow}
-use Rattle.question.specs.Checked.{AtOffice}
+use Rattle.question.specs.Checked.{AtSeat}
 use Rattle.ask.proofs.Links.{walkFor}
 use Rattle.sheet.proofs.Forming.{words-of}
 use Rattle.question.proofs.Known.{found-class}
@@ -94,58 +94,52 @@ known-some s t h f office c n e z =
     f .nodes .fit (r .0) l .number (found-class s false office c n (r .0) (r .2) .1 ∙ z)
 
 -- the row that a search found
-module _ (s t : List ℕ) (h : Header) (f : WellFormed s t h) (k c n to : ℕ) (e : known s false (suc k) c n ≡ true) (x : FirstStanding (stands s false (suc k) c n) (h .nodes) to) where
+module _ (s t : List ℕ) (h : Header) (f : WellFormed s t h) (office c n to : ℕ) (e : known s false office c n ≡ true) (x : FirstStanding (stands s false office c n) (h .nodes) to) where
   pub found-in : to < h .nodes
-  found-in = ltb-true to (h .nodes) (known-by s h k c n to (f .head) x ∙ e)
+  found-in = ltb-true to (h .nodes) (known-by s h office c n to (f .head) x ∙ e)
 
   pub found-key : (c ≡ 3 → ⊥) → nodeKeyAt s to ≡ identity c n 0
   found-key z =
-      let a = found-class s false (suc k) c n to (x .found found-in) in
+      let a = found-class s false office c n to (x .found found-in) in
       plain-row s t h f to c found-in (a .0) z ∙ ap (λ (y : ℕ). identity c y 0) (a .1)
 
-module _ (s t : List ℕ) (h : Header) (k mark : ℕ) (at : AtOffice s t h k mark) (w : Walk) (d to : ℕ) (is : w ≡ walkOf mark 3 d) (inside : to < h .nodes) where
+module _ (s t : List ℕ) (h : Header) (seat : Seat) (at : AtSeat s t h seat) (d to : ℕ) (inside : to < h .nodes) where
   abbrev f : WellFormed s t h
   f = at .formed
 
-  walks : w ≡ walkFor k grant d
-  walks = is ∙ ap (λ (x : ℕ). walkOf x 3 d) (at .mark-is)
+  abbrev w : Walk
+  w = walkFor seat grant d
 
-  own : (i : ℕ) → LeadsTo s t h w i to → LeadsTo s t h (walkFor k grant d) i to
-  own i l = subst (λ (x : Walk). LeadsTo s t h x i to) walks l
-
-  back : (i : ℕ) → LeadsTo s t h (walkFor k grant d) i to → LeadsTo s t h w i to
-  back i l = subst (λ (x : Walk). LeadsTo s t h x i to) (sym walks) l
-
-  key : (p : ℕ) (l : PersonLeads s t h (suc k) w to p) → nodeKeyAt s (l .row) ≡ person p
+  key : (p : ℕ) (l : PersonLeads s t h (seat .office) w to p) → nodeKeyAt s (l .row) ≡ person p
   key p l = plain-row s t h f (l .row) 1 (l .inside) (l .class) (λ z. omega arith) ∙ ap person (l .numbered)
 
   -- a person's row from which the walk leads
-  leading : (p : ℕ) (r : SeenRow s h (suc k) 1 p 0) → LeadsTo s t h (walkFor k grant d) (r .row) to → PersonLeads s t h (suc k) w to p
-  leading p r l = record { row = r .row; inside = r .inside; class = cc (r .names); bears = r .bears; numbered = cc (r .names); leads = back (r .row) l }
+  leading : (p : ℕ) (r : SeenRow s h (seat .office) 1 p 0) → LeadsTo s t h w (r .row) to → PersonLeads s t h (seat .office) w to p
+  leading p r l = record { row = r .row; inside = r .inside; class = cc (r .names); bears = r .bears; numbered = cc (r .names); leads = l }
 
   module _ (c : ℕ) (is-category : nodeKeyAt s to ≡ category c) where
-    into : (p : ℕ) → PersonLeads s t h (suc k) w to p → InCategory (seenAt s (suc k)) c p
-    into p l = category-of s t h f k d (l .row) to p c (l .inside) (key p l) inside is-category (own (l .row) (l .leads))
+    into : (p : ℕ) → PersonLeads s t h (seat .office) w to p → InCategory (seenFrom s seat) c p
+    into p l = category-of s t h f seat d (l .row) to p c (l .inside) (key p l) inside is-category (l .leads)
 
-    out : (p : ℕ) → InCategory (seenAt s (suc k)) c p → PersonLeads s t h (suc k) w to p
+    out : (p : ℕ) → InCategory (seenFrom s seat) c p → PersonLeads s t h (seat .office) w to p
     out p i =
-        let r = seen-row s t h f (suc k) 1 p 0 (ends-seen s (words-of s t h f) (suc k) 1 1 p 0 2 (i .directly) 0 (i .member-of) .0) in
-        leading p r (category-leads s t h f k d (r .row) to p c (r .inside) (r .names) inside is-category i)
+        let r = seen-row s t h f (seat .office) 1 p 0 (ends-seen s (words-of s t h f) (seat .office) 1 1 p 0 2 (i .directly) 0 (i .member-of) .0) in
+        leading p r (category-leads s t h f seat d (r .row) to p c (r .inside) (r .names) inside is-category i)
 
-    pub persons-found : {list : List ℕ} {n : ℕ} → Finds (Rising (PersonLeads s t h (suc k) w to)) list n → Finds (PersonsAre (seenAt s (suc k)) c) list n
+    pub persons-found : {list : List ℕ} {n : ℕ} → Finds (Rising (PersonLeads s t h (seat .office) w to)) list n → Finds (PersonsAre (seenFrom s seat) c) list n
     persons-found x = finds-map (λ ws. rising-map into out) (λ ws. rising-map out into) x
 
   module _ (n : ℕ) (is-folio : nodeKeyAt s to ≡ folio n) (some : d ≡ 0 → ⊥) where
-    holds : (p : ℕ) → PersonLeads s t h (suc k) w to p → HasPath (seenAt s (suc k)) grant p d n
+    holds : (p : ℕ) → PersonLeads s t h (seat .office) w to p → HasPath (seenFrom s seat) grant p d n
     holds p l =
-        let r = folio-of s t h f k grant d (l .row) to p n (key p l) is-folio (own (l .row) (l .leads)) in
-        subst (λ (x : ℕ). HasPath (seenAt s (suc k)) grant p x n) (r .1 some) (r .2)
+        let r = folio-of s t h f seat grant d (l .row) to p n (key p l) is-folio (l .leads) in
+        subst (λ (x : ℕ). HasPath (seenFrom s seat) grant p x n) (r .1 some) (r .2)
 
-    held : (p : ℕ) → HasPath (seenAt s (suc k)) grant p d n → PersonLeads s t h (suc k) w to p
+    held : (p : ℕ) → HasPath (seenFrom s seat) grant p d n → PersonLeads s t h (seat .office) w to p
     held p i =
-        let a = a1-a2 (seenAt s (suc k)) p d n grant .0 i in
-        let r = seen-row s t h f (suc k) 1 p 0 (ends-seen s (words-of s t h f) (suc k) 1 1 p 0 2 (a .c) 0 (a .assigned) .0) in
-        leading p r (folio-leads s t h f k grant d (r .row) to p d n (r .inside) (r .names) inside is-folio (λ z. refl) i)
+        let a = a1-a2 (seenFrom s seat) p d n grant .0 i in
+        let r = seen-row s t h f (seat .office) 1 p 0 (ends-seen s (words-of s t h f) (seat .office) 1 1 p 0 2 (a .c) 0 (a .assigned) .0) in
+        leading p r (folio-leads s t h f seat grant d (r .row) to p d n (r .inside) (r .names) inside is-folio (λ z. refl) i)
 
-    pub holders-found : {list : List ℕ} {m : ℕ} → Finds (Rising (PersonLeads s t h (suc k) w to)) list m → Finds (HoldersAre (seenAt s (suc k)) d n) list m
+    pub holders-found : {list : List ℕ} {m : ℕ} → Finds (Rising (PersonLeads s t h (seat .office) w to)) list m → Finds (HoldersAre (seenFrom s seat) d n) list m
     holders-found x = finds-map (λ ws. rising-map holds held) (λ ws. rising-map held holds) x

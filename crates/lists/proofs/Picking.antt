@@ -1,6 +1,6 @@
 -- Rows of one type that are picked: the code's test is the definition's, and their numbers rise; and what a question refuses, by what was looked up.
 -- Assumes nothing.
-use Prim.Native.Nat.{ℕ, zero, suc, _/_, _%_, _^_, _≤_}
+use Prim.Native.Nat.{ℕ, zero, suc, _≤_}
 use native.Mathlib.Omega.{arith}
 use mathlib.Core.Path.{_≡_, refl, sym, subst, _∙_}
 use mathlib.Core.Bool.{Bool, true, false, not, _&&_, true≢false}
@@ -8,14 +8,16 @@ use mathlib.Core.List.{List}
 use lib.Dec.{eqb, ltb}
 use lib.ListN.{getD}
 use borrow.Author.Tests.{eqb-true, eq-eqb}
+use Rattle.tables.specs.Marks.{marked}
 use Rattle.sheet.specs.declared.Header.{Header}
 use Rattle.sheet.specs.declared.Node.{Node}
+use Rattle.sheet.specs.declared.Seat.{Seat}
 use Rattle.sheet.specs.Refusals.{_when_otherwise_, _orElse_}
 use Rattle.sheet.specs.Rows.{headerOf, nodeAt}
 use Rattle.paths.proofs.Tests.{and-left, and-right, both}
 use Rattle.meaning.specs.Forms.{Rising}
 use Rattle.question.specs.declared.Question.{Question}
-use Rattle.question.specs.Asked.{FirstStanding, stands, known, badOffice}
+use Rattle.question.specs.Asked.{seatFor, FirstStanding, stands, known, badOffice}
 use Rattle.question.proofs.Known.{found-known}
 use Rattle.lists.specs.Picked.{wanted, Picked, PickedNumber}
 use Rattle.lists.specs.Sought.{unknownCategory, unknownRight, badPair, soughtFault}
@@ -23,22 +25,22 @@ use Rattle.reach.proofs.Collecting.{Collected, collected-all}
 
 -- ---- the test of a row
 
-module _ (s : List ℕ) (k mark class : ℕ) (some : Bool) (d : List ℕ) (i : ℕ) (r : Node) (b : Bool) (m : mark ≡ 2 ^ k) (e : r ≡ nodeAt s i)
-    (t : b ≡ (eqb (r .class) class && (eqb (r .offices / mark % 2) 1 && wanted some (getD d i 0)))) where
-  own : b ≡ (eqb (nodeAt s i .class) class && (eqb (nodeAt s i .offices / 2 ^ k % 2) 1 && wanted some (getD d i 0)))
-  own = rw (← m, ← e) t
+module _ (s : List ℕ) (office class : ℕ) (some : Bool) (d : List ℕ) (i : ℕ) (r : Node) (b : Bool) (e : r ≡ nodeAt s i)
+    (t : b ≡ (eqb (r .class) class && (marked (r .offices) office && wanted some (getD d i 0)))) where
+  own : b ≡ (eqb (nodeAt s i .class) class && (marked (nodeAt s i .offices) office && wanted some (getD d i 0)))
+  own = rw (← e) t
 
-  pub picked-yes : b ≡ true → Picked s (suc k) class some d i
+  pub picked-yes : b ≡ true → Picked s office class some d i
   picked-yes q =
       let x = sym own ∙ q in
       let y = and-right (eqb (nodeAt s i .class) class) _ x in
       record {
         is-class = eqb-true _ class (and-left (eqb (nodeAt s i .class) class) _ x);
-        bears = and-left (eqb (nodeAt s i .offices / 2 ^ k % 2) 1) _ y;
-        by = and-right (eqb (nodeAt s i .offices / 2 ^ k % 2) 1) _ y;
+        bears = and-left (marked (nodeAt s i .offices) office) _ y;
+        by = and-right (marked (nodeAt s i .offices) office) _ y;
       }
 
-  pub picked-no : b ≡ false → Picked s (suc k) class some d i → ⊥
+  pub picked-no : b ≡ false → Picked s office class some d i → ⊥
   picked-no q p = true≢false (sym (both (eq-eqb _ class (p .is-class)) (both (p .bears) (p .by))) ∙ sym own ∙ q)
 
 -- all rows passed: the list is that of the picked numbers
@@ -49,9 +51,9 @@ picked-all s i n office class some d out l m c =
 
 -- ---- what is refused
 
-pub known-by : (s : List ℕ) (h : Header) (k class number r : ℕ) → h ≡ headerOf s → FirstStanding (stands s false (suc k) class number) (h .nodes) r → ltb r (h .nodes) ≡ known s false (suc k) class number
+pub known-by : (s : List ℕ) (h : Header) (office class number r : ℕ) → h ≡ headerOf s → FirstStanding (stands s false office class number) (h .nodes) r → ltb r (h .nodes) ≡ known s false office class number
 unfolding known
-known-by s h k class number r e x = rw e (found-known _ _ r (subst (λ (y : Header). FirstStanding (stands s false (suc k) class number) (y .nodes) r) e x))
+known-by s h office class number r e x = rw e (found-known _ _ r (subst (λ (y : Header). FirstStanding (stands s false office class number) (y .nodes) r) e x))
 
 pub fault-after : (number : ℕ) (s : List ℕ) (q : Question) (h : Header) → h ≡ headerOf s → badOffice h (q .office) ≡ 0
     → soughtFault number s q ≡ (unknownCategory s q when eqb number 5 otherwise unknownRight s q when eqb number 6 otherwise badPair s q when eqb number 9 otherwise 0)
@@ -85,23 +87,23 @@ unfolding _when_otherwise_
 known-line n true more z e = (refl, e)
 known-line n false more z e = absurd (z e)
 
-module _ (number : ℕ) (s : List ℕ) (q : Question) (k : ℕ) (office : q .office ≡ suc k) (fine : soughtFault number s q ≡ 0) where
+module _ (number : ℕ) (s : List ℕ) (q : Question) (seat : Seat) (is : seat ≡ seatFor q) (fine : soughtFault number s q ≡ 0) where
   own-line : (unknownCategory s q when eqb number 5 otherwise unknownRight s q when eqb number 6 otherwise badPair s q when eqb number 9 otherwise 0) ≡ 0
   unfolding soughtFault
   own-line = else-zero (badOffice (headerOf s) (q .office)) _ fine
 
-  pub category-known : number ≡ 5 → known s false (suc k) 2 (q .category) ≡ true
+  pub category-known : number ≡ 5 → known s false (seat .office) 2 (q .category) ≡ true
   unfolding unknownCategory _when_otherwise_
   category-known e =
       let a = known-line 24 (known s false (q .office) 2 (q .category)) 0 (λ z. omega arith) (rw e at own-line) .0 in
-      subst (λ (o : ℕ). known s false o 2 (q .category) ≡ true) office a
+      subst (λ (x : Seat). known s false (x .office) 2 (q .category) ≡ true) (sym is) a
 
-  pub right-known : number ≡ 6 → (known s false (suc k) 3 (q .deed) ≡ true) × (known s false (suc k) 4 (q .folio) ≡ true)
+  pub right-known : number ≡ 6 → (known s false (seat .office) 3 (q .deed) ≡ true) × (known s false (seat .office) 4 (q .folio) ≡ true)
   unfolding unknownRight _when_otherwise_
   right-known e =
       let a = known-line 22 (known s false (q .office) 3 (q .deed)) _ (λ z. omega arith) (rw e at own-line) in
       let b = known-line 23 (known s false (q .office) 4 (q .folio)) 0 (λ z. omega arith) (a .1) .0 in
-      (subst (λ (o : ℕ). known s false o 3 (q .deed) ≡ true) office (a .0), subst (λ (o : ℕ). known s false o 4 (q .folio) ≡ true) office b)
+      (subst (λ (x : Seat). known s false (x .office) 3 (q .deed) ≡ true) (sym is) (a .0), subst (λ (x : Seat). known s false (x .office) 4 (q .folio) ≡ true) (sym is) b)
 
 -- a question that refuses nothing more than the office's number
 pub office-alone : (s : List ℕ) (q : Question) (number : ℕ) → eqb number 5 ≡ false → eqb number 6 ≡ false → eqb number 9 ≡ false → soughtFault number s q ≡ badOffice (headerOf s) (q .office)

@@ -5,10 +5,9 @@ use mathlib.Core.Bool.{Bool, true, false, not}
 use mathlib.Core.List.{List}
 use Rattle.sheet.specs.Refusals.{_is_, _when_otherwise_, _orElse_}
 use Rattle.sheet.specs.Rows.{headerOf}
-use Rattle.sheet.specs.Named.{seenAt}
 use Rattle.meaning.specs.Questions.{PersonsAre, HoldersAre, UnreachedAre, LeastBothIs, LeastPairIs, RedundantAre}
 use Rattle.question.specs.declared.Question.{Question}
-use Rattle.question.specs.Asked.{known, badOffice}
+use Rattle.question.specs.Asked.{asked, known, badOffice}
 
 -- question 5: 24 unknown category
 unfoldable pub unknownCategory : List ℕ → Question → ℕ
@@ -36,9 +35,9 @@ soughtFault number s q =
 -- what questions 5 to 10 give, by the question's number
 unfoldable pub soughtIs : ℕ → List ℕ → Question → List ℕ → Type 0
 soughtIs number s q =
-    chosen (number is 5) (PersonsAre (seenAt s (q .office)) (q .category))
-    (chosen (number is 6) (HoldersAre (seenAt s (q .office)) (q .deed) (q .folio))
-    (chosen (number is 7) (UnreachedAre (seenAt s (q .office)))
-    (chosen (number is 8) (LeastBothIs (seenAt s (q .office)))
-    (chosen (number is 9) (LeastPairIs (seenAt s (q .office)) (q .deed) (q .other))
+    chosen (number is 5) (PersonsAre (asked s q) (q .category))
+    (chosen (number is 6) (HoldersAre (asked s q) (q .deed) (q .folio))
+    (chosen (number is 7) (UnreachedAre (asked s q))
+    (chosen (number is 8) (LeastBothIs (asked s q))
+    (chosen (number is 9) (LeastPairIs (asked s q) (q .deed) (q .other))
     (RedundantAre s (q .office))))))

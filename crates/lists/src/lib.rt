@@ -3,23 +3,25 @@ use question::Answer;
 use question::Question;
 use sheet::Header;
 use sheet::Node;
+use sheet::Seat;
 use walk::Walk;
 ghost use mathlib.Core.Path.{_≡_};
 ghost use mathlib.Core.Bool.{true, false, _&&_, not};
-ghost use Prim.Native.Nat.{suc, _/_, _%_, _^_, _<_, _≤_};
+ghost use Prim.Native.Nat.{_<_, _≤_};
 ghost use lib.ListN.{length, take, drop};
 ghost use mathlib.Core.List.{_++_};
 ghost use Rattle.tables.specs.Count.{numberOf};
+ghost use Rattle.tables.specs.Marks.{marked};
 ghost use Rattle.sheet.specs.Limits.{maxNodes, maxEdges};
 ghost use Rattle.sheet.specs.Refusals.{_is_, _when_otherwise_, none};
 ghost use Rattle.sheet.specs.Rows.{headerOf, nodeAt};
 ghost use Rattle.sheet.specs.Accepted.{NodesFormed, WellFormed};
-ghost use Rattle.sheet.specs.Named.{seenAt};
+ghost use Rattle.sheet.specs.Seats.{Seated, seenFrom};
 ghost use Rattle.walk.specs.Arcs.{walkOf, Arranged};
 ghost use Rattle.meaning.specs.Forms.{Rising};
 ghost use Rattle.meaning.specs.Questions.{PersonsAre, HoldersAre, UnreachedAre};
-ghost use Rattle.question.specs.Asked.{known, badOffice, plain, afterSheet};
-ghost use Rattle.question.specs.Checked.{AtOffice};
+ghost use Rattle.question.specs.Asked.{seatFor, known, badOffice, plain, afterSheet};
+ghost use Rattle.question.specs.Checked.{AtSeat};
 ghost use Rattle.question.specs.Replies.{Shows};
 ghost use Rattle.reach.specs.Found.{noneFound, Finds};
 ghost use Rattle.lists.specs.Handed.{Handed};
@@ -44,28 +46,28 @@ fn is_wanted(reached: bool, v: u32) -> bool
     v == 0
 }
 
-// Whether a node row has the type and the mark, and its number v is wanted.
-fn is_picked(r: Node, mark: u32, class: u32, reached: bool, v: u32) -> bool
-    requires { ⌜ 0 < mark ⌝ }
-    ensures { λ b. ⌜ b ≡ ((r .class is class) && (((r .offices / mark % 2) is 1) && wanted reached v)) ⌝ }
+// Whether a node row has the type and the mark of the seat's office, and its number v is wanted.
+fn is_picked(r: Node, seat: Seat, class: u32, reached: bool, v: u32) -> bool
+    requires { ⌜ Seated seat ⌝ }
+    ensures { λ b. ⌜ b ≡ ((r .class is class) && (marked (r .offices) (seat .office) && wanted reached v)) ⌝ }
 {
     let good = is_wanted(reached, v);
-    (r.class == class) & ((r.offices / mark % 2 == 1) & good)
+    let marked = sheet::bears(seat, r.offices);
+    (r.class == class) & (marked & good)
 }
 
-// The numbers of the rows of a type that office k + 1 has and whose number in d is some, or none, rising.
+// The numbers of the rows of a type that the seat's office has and whose number in d is some, or none, rising.
 fn numbers_of(
     sheet: &[u32],
     h: Header,
-    k: u32,
-    mark: u32,
+    seat: Seat,
     class: u32,
     reached: bool,
     d: [u32; ROWS],
     list: &mut [u32],
 ) -> u32
-    requires { ⌜ NodesFormed (now sheet) h × (mark ≡ 2 ^ k) × (0 < mark) × (class ≡ 3 → ⊥) × (length d ≡ maxNodes) × (length (now list) ≡ maxEdges) ⌝ }
-    ensures { λ r. ⌜ Finds (Rising (PickedNumber (now (sheet .entry)) (h .nodes) (suc k) class reached d)) (now (list .exit)) r ⌝ }
+    requires { ⌜ NodesFormed (now sheet) h × Seated seat × (class ≡ 3 → ⊥) × (length d ≡ maxNodes) × (length (now list) ≡ maxEdges) ⌝ }
+    ensures { λ r. ⌜ Finds (Rising (PickedNumber (now (sheet .entry)) (h .nodes) (seat .office) class reached d)) (now (list .exit)) r ⌝ }
 {
     let rows = h.nodes;
     let mut n: u32 = 0;
@@ -73,7 +75,7 @@ fn numbers_of(
     while i < rows {
         let at = i as usize;
         let r = sheet::node_at(sheet, at);
-        let good = is_picked(r, mark, class, reached, d[at]);
+        let good = is_picked(r, seat, class, reached, d[at]);
         n = reach::put(list, n, good, r.number);
         i += 1;
     }
@@ -90,7 +92,7 @@ fn person_reaches(
     from: u32,
     to: u32,
 ) -> u32
-    requires { ⌜ WellFormed (now sheet) (now edges) h × (0 < w .mark) × Arranged (now sheet) (now edges) h w (now index) × (from < h .nodes) × (to < h .nodes) ⌝ }
+    requires { ⌜ WellFormed (now sheet) (now edges) h × Seated (w .seat) × Arranged (now sheet) (now edges) h w (now index) × (from < h .nodes) × (to < h .nodes) ⌝ }
     ensures { λ r. ⌜ (nodeAt (now (sheet .entry)) from .class ≡ 1 → Tells r (LeadsTo (now (sheet .entry)) (now (edges .entry)) h w from to)) ⌝ }
 {
     let r = sheet::node_at(sheet, from as usize);
@@ -111,7 +113,7 @@ fn persons_reaching(
     index: &[u32],
     to: u32,
 ) -> [u32; ROWS]
-    requires { ⌜ WellFormed (now sheet) (now edges) h × (0 < w .mark) × Arranged (now sheet) (now edges) h w (now index) × (to < h .nodes) ⌝ }
+    requires { ⌜ WellFormed (now sheet) (now edges) h × Seated (w .seat) × Arranged (now sheet) (now edges) h w (now index) × (to < h .nodes) ⌝ }
     ensures { λ r. ⌜ PersonsReach (now (sheet .entry)) (now (edges .entry)) h w to r ⌝ }
 {
     let mut m = [0u32; ROWS];
@@ -125,58 +127,55 @@ fn persons_reaching(
     m
 }
 
-// The numbers of the persons of office k + 1 from whose rows the grants' walk for a deed leads to a row, rising.
+// The numbers of the persons of the seat's office from whose rows the grants' walk for a deed leads to a row, rising.
 fn persons_to(
     sheet: &[u32],
     edges: &[u32],
     h: Header,
-    k: u32,
-    mark: u32,
+    seat: Seat,
     deed: u32,
     to: u32,
     list: &mut [u32],
 ) -> u32
-    requires { ⌜ AtOffice (now sheet) (now edges) h k mark × (to < h .nodes) × (length (now list) ≡ maxEdges) ⌝ }
-    ensures { λ r. ⌜ Finds (Rising (PersonLeads (now (sheet .entry)) (now (edges .entry)) h (suc k) (walkOf mark 3 deed) to)) (now (list .exit)) r ⌝ }
+    requires { ⌜ AtSeat (now sheet) (now edges) h seat × (to < h .nodes) × (length (now list) ≡ maxEdges) ⌝ }
+    ensures { λ r. ⌜ Finds (Rising (PersonLeads (now (sheet .entry)) (now (edges .entry)) h (seat .office) (walkOf seat 3 deed) to)) (now (list .exit)) r ⌝ }
 {
-    let w = walk::walk_of(mark, 3, deed);
+    let w = walk::walk_of(seat, 3, deed);
     let index = walk::arranged(sheet, edges, h, w);
     let m = persons_reaching(sheet, edges, h, w, &index, to);
-    numbers_of(sheet, h, k, mark, 1, true, m, list)
+    numbers_of(sheet, h, seat, 1, true, m, list)
 }
 
-// Question 5 at office k + 1: the persons in a category that it knows.
+// Question 5 from the seat: the persons in a category that its office knows.
 fn persons_within(
     sheet: &[u32],
     edges: &[u32],
     h: Header,
-    k: u32,
-    mark: u32,
+    seat: Seat,
     q: Question,
     list: &mut [u32],
 ) -> u32
-    requires { ⌜ AtOffice (now sheet) (now edges) h k mark × (known (now sheet) false (suc k) 2 (q .category) ≡ true) × (length (now list) ≡ maxEdges) ⌝ }
-    ensures { λ r. ⌜ Finds (PersonsAre (seenAt (now (sheet .entry)) (suc k)) (q .category)) (now (list .exit)) r ⌝ }
+    requires { ⌜ AtSeat (now sheet) (now edges) h seat × (known (now sheet) false (seat .office) 2 (q .category) ≡ true) × (length (now list) ≡ maxEdges) ⌝ }
+    ensures { λ r. ⌜ Finds (PersonsAre (seenFrom (now (sheet .entry)) seat) (q .category)) (now (list .exit)) r ⌝ }
 {
-    let to = question::seek(sheet, h, false, k, mark, 2, q.category);
-    persons_to(sheet, edges, h, k, mark, 0, to, list)
+    let to = question::seek(sheet, h, false, seat, 2, q.category);
+    persons_to(sheet, edges, h, seat, 0, to, list)
 }
 
-// Question 6 at office k + 1: the persons with a grant path for a deed and a folio that it knows.
+// Question 6 from the seat: the persons with a grant path for a deed and a folio that its office knows.
 fn persons_holding(
     sheet: &[u32],
     edges: &[u32],
     h: Header,
-    k: u32,
-    mark: u32,
+    seat: Seat,
     q: Question,
     list: &mut [u32],
 ) -> u32
-    requires { ⌜ AtOffice (now sheet) (now edges) h k mark × (known (now sheet) false (suc k) 3 (q .deed) ≡ true) × (known (now sheet) false (suc k) 4 (q .folio) ≡ true) × (length (now list) ≡ maxEdges) ⌝ }
-    ensures { λ r. ⌜ Finds (HoldersAre (seenAt (now (sheet .entry)) (suc k)) (q .deed) (q .folio)) (now (list .exit)) r ⌝ }
+    requires { ⌜ AtSeat (now sheet) (now edges) h seat × (known (now sheet) false (seat .office) 3 (q .deed) ≡ true) × (known (now sheet) false (seat .office) 4 (q .folio) ≡ true) × (length (now list) ≡ maxEdges) ⌝ }
+    ensures { λ r. ⌜ Finds (HoldersAre (seenFrom (now (sheet .entry)) seat) (q .deed) (q .folio)) (now (list .exit)) r ⌝ }
 {
-    let to = question::seek(sheet, h, false, k, mark, 4, q.folio);
-    persons_to(sheet, edges, h, k, mark, q.deed, to, list)
+    let to = question::seek(sheet, h, false, seat, 4, q.folio);
+    persons_to(sheet, edges, h, seat, q.deed, to, list)
 }
 
 // 1 at a person's row, 0 at any other.
@@ -208,7 +207,7 @@ fn person_starts(sheet: &[u32], h: Header) -> [u32; ROWS]
 
 // For each row, whether the walk leads to it from some person's: 0 no, any other yes.
 fn persons_lead(sheet: &[u32], edges: &[u32], h: Header, w: Walk) -> [u32; ROWS]
-    requires { ⌜ WellFormed (now sheet) (now edges) h × (0 < w .mark) ⌝ }
+    requires { ⌜ WellFormed (now sheet) (now edges) h × Seated (w .seat) ⌝ }
     ensures { λ r. ⌜ PersonsLead (now (sheet .entry)) (now (edges .entry)) h w r ⌝ }
 {
     let mut rows = person_starts(sheet, h);
@@ -216,66 +215,58 @@ fn persons_lead(sheet: &[u32], edges: &[u32], h: Header, w: Walk) -> [u32; ROWS]
     rows
 }
 
-// Question 7 at office k + 1: the folios to which no person has a grant path by any deed.
-fn folios_unreached(
-    sheet: &[u32],
-    edges: &[u32],
-    h: Header,
-    k: u32,
-    mark: u32,
-    list: &mut [u32],
-) -> u32
-    requires { ⌜ AtOffice (now sheet) (now edges) h k mark × (length (now list) ≡ maxEdges) ⌝ }
-    ensures { λ r. ⌜ Finds (UnreachedAre (seenAt (now (sheet .entry)) (suc k))) (now (list .exit)) r ⌝ }
+// Question 7 from the seat: the folios to which no person has a grant path by any deed.
+fn folios_unreached(sheet: &[u32], edges: &[u32], h: Header, seat: Seat, list: &mut [u32]) -> u32
+    requires { ⌜ AtSeat (now sheet) (now edges) h seat × (length (now list) ≡ maxEdges) ⌝ }
+    ensures { λ r. ⌜ Finds (UnreachedAre (seenFrom (now (sheet .entry)) seat)) (now (list .exit)) r ⌝ }
 {
-    let w = walk::walk_of(mark, 3, 0);
+    let w = walk::walk_of(seat, 3, 0);
     let d = persons_lead(sheet, edges, h, w);
-    numbers_of(sheet, h, k, mark, 4, false, d, list)
+    numbers_of(sheet, h, seat, 4, false, d, list)
 }
 
-// Whether office k + 1 knows a type and number.
-fn is_known(sheet: &[u32], h: Header, k: u32, mark: u32, class: u32, number: u32) -> bool
-    requires { ⌜ NodesFormed (now sheet) h × (h ≡ headerOf (now sheet)) × (mark ≡ 2 ^ k) × (0 < mark) ⌝ }
-    ensures { λ r. ⌜ r ≡ known (now (sheet .entry)) false (suc k) class number ⌝ }
+// Whether the seat's office knows a type and number.
+fn is_known(sheet: &[u32], h: Header, seat: Seat, class: u32, number: u32) -> bool
+    requires { ⌜ NodesFormed (now sheet) h × (h ≡ headerOf (now sheet)) × Seated seat ⌝ }
+    ensures { λ r. ⌜ r ≡ known (now (sheet .entry)) false (seat .office) class number ⌝ }
 {
-    question::seek(sheet, h, false, k, mark, class, number) < h.nodes
+    question::seek(sheet, h, false, seat, class, number) < h.nodes
 }
 
-// A line of the table: its fault where office k + 1 does not know a type and number, else what the lines after it say.
+// A line of the table: its fault where the seat's office does not know a type and number, else what the lines after it say.
 fn unknown_line(
     sheet: &[u32],
     h: Header,
-    k: u32,
-    mark: u32,
+    seat: Seat,
     class: u32,
     number: u32,
     fault: u32,
     after: u32,
 ) -> u32
-    requires { ⌜ NodesFormed (now sheet) h × (h ≡ headerOf (now sheet)) × (mark ≡ 2 ^ k) × (0 < mark) ⌝ }
-    ensures { λ r. ⌜ r ≡ (fault when not (known (now (sheet .entry)) false (suc k) class number) otherwise after) ⌝ }
+    requires { ⌜ NodesFormed (now sheet) h × (h ≡ headerOf (now sheet)) × Seated seat ⌝ }
+    ensures { λ r. ⌜ r ≡ (fault when not (known (now (sheet .entry)) false (seat .office) class number) otherwise after) ⌝ }
 {
-    if !is_known(sheet, h, k, mark, class, number) {
+    if !is_known(sheet, h, seat, class, number) {
         return fault;
     }
     after
 }
 
-// Question 5: 24 where office k + 1 does not know the category.
-fn unknown_category(sheet: &[u32], h: Header, k: u32, mark: u32, q: Question) -> u32
-    requires { ⌜ NodesFormed (now sheet) h × (h ≡ headerOf (now sheet)) × (mark ≡ 2 ^ k) × (0 < mark) × (q .office ≡ suc k) ⌝ }
+// Question 5: 24 where the seat's office does not know the category.
+fn unknown_category(sheet: &[u32], h: Header, seat: Seat, q: Question) -> u32
+    requires { ⌜ NodesFormed (now sheet) h × (h ≡ headerOf (now sheet)) × Seated seat × (seat ≡ seatFor q) ⌝ }
     ensures { λ r. ⌜ r ≡ unknownCategory (now (sheet .entry)) q ⌝ }
 {
-    unknown_line(sheet, h, k, mark, 2, q.category, 24, 0)
+    unknown_line(sheet, h, seat, 2, q.category, 24, 0)
 }
 
-// Question 6: 22, 23 where office k + 1 does not know the deed or the folio.
-fn unknown_right(sheet: &[u32], h: Header, k: u32, mark: u32, q: Question) -> u32
-    requires { ⌜ NodesFormed (now sheet) h × (h ≡ headerOf (now sheet)) × (mark ≡ 2 ^ k) × (0 < mark) × (q .office ≡ suc k) ⌝ }
+// Question 6: 22, 23 where the seat's office does not know the deed or the folio.
+fn unknown_right(sheet: &[u32], h: Header, seat: Seat, q: Question) -> u32
+    requires { ⌜ NodesFormed (now sheet) h × (h ≡ headerOf (now sheet)) × Seated seat × (seat ≡ seatFor q) ⌝ }
     ensures { λ r. ⌜ r ≡ unknownRight (now (sheet .entry)) q ⌝ }
 {
-    let after = unknown_line(sheet, h, k, mark, 4, q.folio, 23, 0);
-    unknown_line(sheet, h, k, mark, 3, q.deed, 22, after)
+    let after = unknown_line(sheet, h, seat, 4, q.folio, 23, 0);
+    unknown_line(sheet, h, seat, 3, q.deed, 22, after)
 }
 
 // 31 where the two deeds are one.
@@ -288,28 +279,28 @@ fn same_deed(q: Question) -> u32
     0
 }
 
-// Question 9: 22 where office k + 1 does not know one of the deeds, 31 where they are one.
-fn bad_pair(sheet: &[u32], h: Header, k: u32, mark: u32, q: Question) -> u32
-    requires { ⌜ NodesFormed (now sheet) h × (h ≡ headerOf (now sheet)) × (mark ≡ 2 ^ k) × (0 < mark) × (q .office ≡ suc k) ⌝ }
+// Question 9: 22 where the seat's office does not know one of the deeds, 31 where they are one.
+fn bad_pair(sheet: &[u32], h: Header, seat: Seat, q: Question) -> u32
+    requires { ⌜ NodesFormed (now sheet) h × (h ≡ headerOf (now sheet)) × Seated seat × (seat ≡ seatFor q) ⌝ }
     ensures { λ r. ⌜ r ≡ badPair (now (sheet .entry)) q ⌝ }
 {
-    let after = unknown_line(sheet, h, k, mark, 3, q.other, 22, same_deed(q));
-    unknown_line(sheet, h, k, mark, 3, q.deed, 22, after)
+    let after = unknown_line(sheet, h, seat, 3, q.other, 22, same_deed(q));
+    unknown_line(sheet, h, seat, 3, q.deed, 22, after)
 }
 
-// What is refused of a question of office k + 1, by the question's number.
-fn fault_at(number: u32, sheet: &[u32], h: Header, k: u32, mark: u32, q: Question) -> u32
-    requires { ⌜ NodesFormed (now sheet) h × (h ≡ headerOf (now sheet)) × (mark ≡ 2 ^ k) × (0 < mark) × (q .office ≡ suc k) × (badOffice h (q .office) ≡ 0) ⌝ }
+// What is refused of a question from the seat, by the question's number.
+fn fault_at(number: u32, sheet: &[u32], h: Header, seat: Seat, q: Question) -> u32
+    requires { ⌜ NodesFormed (now sheet) h × (h ≡ headerOf (now sheet)) × Seated seat × (seat ≡ seatFor q) × (badOffice h (q .office) ≡ 0) ⌝ }
     ensures { λ r. ⌜ r ≡ soughtFault number (now (sheet .entry)) q ⌝ }
 {
     if number == 5 {
-        return unknown_category(sheet, h, k, mark, q);
+        return unknown_category(sheet, h, seat, q);
     }
     if number == 6 {
-        return unknown_right(sheet, h, k, mark, q);
+        return unknown_right(sheet, h, seat, q);
     }
     if number == 9 {
-        return bad_pair(sheet, h, k, mark, q);
+        return bad_pair(sheet, h, seat, q);
     }
     0
 }
@@ -342,54 +333,52 @@ fn hand_over(list: &[u32], n: u32, out: &mut [u32]) -> Answer
     question::told(0, n)
 }
 
-// What question 5, 6 and so on to 10 finds at office k + 1, by the question's number, where nothing is refused.
+// What question 5, 6 and so on to 10 finds from the seat, by the question's number, where nothing is refused.
 fn found(
     number: u32,
     sheet: &[u32],
     edges: &[u32],
     h: Header,
-    k: u32,
-    mark: u32,
+    seat: Seat,
     q: Question,
     list: &mut [u32],
 ) -> u32
-    requires { ⌜ AtOffice (now sheet) (now edges) h k mark × (q .office ≡ suc k) × (soughtFault number (now sheet) q ≡ 0) × (length (now list) ≡ maxEdges) ⌝ }
+    requires { ⌜ AtSeat (now sheet) (now edges) h seat × (seat ≡ seatFor q) × (soughtFault number (now sheet) q ≡ 0) × (length (now list) ≡ maxEdges) ⌝ }
     ensures { λ r. ⌜ Finds (soughtIs number (now (sheet .entry)) q) (now (list .exit)) r ⌝ }
 {
     if number == 5 {
-        return persons_within(sheet, edges, h, k, mark, q, list);
+        return persons_within(sheet, edges, h, seat, q, list);
     }
     if number == 6 {
-        return persons_holding(sheet, edges, h, k, mark, q, list);
+        return persons_holding(sheet, edges, h, seat, q, list);
     }
     if number == 7 {
-        return folios_unreached(sheet, edges, h, k, mark, list);
+        return folios_unreached(sheet, edges, h, seat, list);
     }
     if number == 8 {
-        return least::least_both(sheet, edges, h, k, mark, list);
+        return least::least_both(sheet, edges, h, seat, list);
     }
     if number == 9 {
-        return least::least_pair(sheet, edges, h, k, mark, q, list);
+        return least::least_pair(sheet, edges, h, seat, q, list);
     }
-    redundant::redundant_rows(sheet, edges, h, k, mark, list)
+    redundant::redundant_rows(sheet, edges, h, seat, list)
 }
 
-// A question's answer at office k + 1, where nothing is refused but 26 and 25.
+// A question's answer from the seat, where nothing is refused but 26 and 25.
 fn sought_at(
     number: u32,
     sheet: &[u32],
     edges: &[u32],
     h: Header,
-    k: u32,
-    mark: u32,
+    seat: Seat,
     q: Question,
     out: &mut [u32],
 ) -> Answer
-    requires { ⌜ AtOffice (now sheet) (now edges) h k mark × (q .office ≡ suc k) × (soughtFault number (now sheet) q ≡ 0) ⌝ }
+    requires { ⌜ AtSeat (now sheet) (now edges) h seat × (seat ≡ seatFor q) × (soughtFault number (now sheet) q ≡ 0) ⌝ }
     ensures { λ a. ⌜ Shows none (soughtIs number (now (sheet .entry)) q) (now (out .entry)) a (now (out .exit)) ⌝ }
 {
     let mut list = [0u32; LIST];
-    let n = found(number, sheet, edges, h, k, mark, q, &mut list);
+    let n = found(number, sheet, edges, h, seat, q, &mut list);
     hand_over(&list, n, out)
 }
 
@@ -409,13 +398,12 @@ fn sought_checked(
     if n != 0 {
         return question::refused_by(n);
     }
-    let k = q.office - 1;
-    let mark = question::mark_of(k);
-    let m = fault_at(number, sheet, h, k, mark, q);
+    let seat = question::seat_at(q.office);
+    let m = fault_at(number, sheet, h, seat, q);
     if m != 0 {
         return question::refused_by(m);
     }
-    sought_at(number, sheet, edges, h, k, mark, q, out)
+    sought_at(number, sheet, edges, h, seat, q, out)
 }
 
 // Questions 5 to 10 by their numbers: each entry below is one.

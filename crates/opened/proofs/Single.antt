@@ -8,7 +8,7 @@ use Rattle.sheet.specs.Rows.{headerOf}
 use Rattle.sheet.specs.Named.{seenAt}
 use Rattle.question.specs.declared.Question.{Question}
 use Rattle.question.specs.declared.Answer.{Answer}
-use Rattle.question.specs.Asked.{sideOf}
+use Rattle.question.specs.Asked.{asked, sideOf}
 use Rattle.claim.specs.Promises.{TellsPath}
 use Rattle.question.proofs.Single.{replies-one}
 use Rattle.ask.proofs.Single.{answer-single, joint-single, witness-single}
@@ -22,14 +22,14 @@ use Rattle.opened.specs.Asking.{questionOf, Answers}
 -- every question but question 4
 pub answers-one : (which : Which) (s : List ℕ) (q : Question) (before : List ℕ) {a b : Answer} {after after′ : List ℕ} → Answers (questionOf which) s q before a after → Answers (questionOf which) s q before b after′ → (a ≡ b) × (after ≡ after′)
 unfolding questionOf Answers
-answers-one AtOffice s q before x y = (replies-one _ _ (answer-single (seenAt s (q .office)) (q .person) (q .deed) (q .folio)) (x .0) (y .0), x .1 ∙ sym (y .1))
+answers-one AtOffice s q before x y = (replies-one _ _ (answer-single (asked s q) (q .person) (q .deed) (q .folio)) (x .0) (y .0), x .1 ∙ sym (y .1))
 answers-one Joint s q before x y = (replies-one _ _ (joint-single (seenAt s) (headerOf s .offices) (q .rule) (q .person) (q .deed) (q .folio)) (x .0) (y .0), x .1 ∙ sym (y .1))
-answers-one Witness s q before x y = witness-single (seenAt s (q .office)) (sideOf (q .kind)) (q .person) (q .deed) (q .folio) _ before x y
-answers-one PersonsInCategory s q before x y = persons-single (seenAt s (q .office)) _ before (q .category) x y
-answers-one PersonsWithGrant s q before x y = holders-single (seenAt s (q .office)) _ before (q .deed) (q .folio) x y
-answers-one FoliosOutOfReach s q before x y = unreached-single (seenAt s (q .office)) _ before x y
-answers-one LeastTriple s q before x y = triple-single (seenAt s (q .office)) _ before x y
-answers-one LeastHolder s q before x y = pair-single (seenAt s (q .office)) _ before (q .deed) (q .other) x y
+answers-one Witness s q before x y = witness-single (asked s q) (sideOf (q .kind)) (q .person) (q .deed) (q .folio) _ before x y
+answers-one PersonsInCategory s q before x y = persons-single (asked s q) _ before (q .category) x y
+answers-one PersonsWithGrant s q before x y = holders-single (asked s q) _ before (q .deed) (q .folio) x y
+answers-one FoliosOutOfReach s q before x y = unreached-single (asked s q) _ before x y
+answers-one LeastTriple s q before x y = triple-single (asked s q) _ before x y
+answers-one LeastHolder s q before x y = pair-single (asked s q) _ before (q .deed) (q .other) x y
 answers-one RedundantEdges s q before x y = redundant-single s (q .office) _ before x y
 
 -- question 4

@@ -6,10 +6,13 @@ use mathlib.Core.Bool.{Bool, true, false, not, _&&_, _||_}
 use mathlib.Core.List.{List}
 use Rattle.tables.specs.Count.{someRow}
 use Rattle.tables.specs.Marks.{marked}
+use Rattle.tables.specs.Office.{View}
 use Rattle.sheet.specs.declared.Refusal.{Refusal}
 use Rattle.sheet.specs.declared.Header.{Header}
+use Rattle.sheet.specs.declared.Seat.{Seat}
 use Rattle.sheet.specs.Refusals.{_is_, _below_, _when_otherwise_, _orElse_, none, refuse, _then_}
 use Rattle.sheet.specs.Rows.{headerOf, nodeAt}
+use Rattle.sheet.specs.Seats.{seatAt, seenFrom}
 use Rattle.sheet.specs.Verdict.{verdict}
 use Rattle.meaning.specs.Paths.{Side, grant, ban}
 use Rattle.question.specs.declared.Question.{Question}
@@ -18,6 +21,14 @@ use Rattle.question.specs.declared.Question.{Question}
 unfoldable pub sideOf : ℕ → Side
 sideOf zero = grant
 sideOf (suc k) = ban
+
+-- the seat from which a question is asked
+abbrev pub seatFor : Question → Seat
+seatFor q = seatAt (q .office)
+
+-- what is seen from there: what the question is about
+abbrev pub asked : List ℕ → Question → View
+asked s q = seenFrom s (seatFor q)
 
 -- node row i has the type and the number, and the office's mark, or any where `any` says so
 unfoldable pub stands : List ℕ → Bool → ℕ → ℕ → ℕ → ℕ → Bool

@@ -2,12 +2,15 @@
 use sheet::Header;
 use sheet::Node;
 use sheet::Refusal;
+use sheet::Seat;
 ghost use mathlib.Core.Path.{_≡_};
 ghost use mathlib.Core.Bool.{_&&_, _||_};
-ghost use Prim.Native.Nat.{suc, _/_, _%_, _^_, _<_};
+ghost use Prim.Native.Nat.{_^_, _<_, _≤_};
 ghost use Rattle.sheet.specs.Limits.{maxOffices};
 ghost use Rattle.sheet.specs.Refusals.{_is_};
+ghost use Rattle.tables.specs.Marks.{marked};
 ghost use Rattle.sheet.specs.Accepted.{NodesFormed};
+ghost use Rattle.sheet.specs.Seats.{seatAt, Seated};
 ghost use Rattle.meaning.specs.Paths.{rightKind};
 ghost use Rattle.question.specs.Asked.{FirstStanding, stands, badOffice, sideOf};
 ghost use Rattle.question.specs.Replies.{refusedBy, tells};
@@ -34,24 +37,25 @@ pub struct Answer {
     pub count: u32,
 }
 
-// Whether a node row has the type and the number, and the mark, or any where `any` says so.
-fn is_standing(r: Node, any: bool, mark: u32, class: u32, number: u32) -> bool
-    requires { ⌜ 0 < mark ⌝ }
-    ensures { λ b. ⌜ b ≡ ((r .class is class) && ((r .number is number) && (any || ((r .offices / mark % 2) is 1)))) ⌝ }
+// Whether a node row has the type and the number, and the mark of the seat's office, or any where `any` says so.
+fn is_standing(r: Node, any: bool, seat: Seat, class: u32, number: u32) -> bool
+    requires { ⌜ Seated seat ⌝ }
+    ensures { λ b. ⌜ b ≡ ((r .class is class) && ((r .number is number) && (any || marked (r .offices) (seat .office)))) ⌝ }
 {
-    (r.class == class) & ((r.number == number) & (any | (r.offices / mark % 2 == 1)))
+    let marked = sheet::bears(seat, r.offices);
+    (r.class == class) & ((r.number == number) & (any | marked))
 }
 
-// The first node row of the type and the number that office k + 1 has, or any office where `any` says so; the node count where there is none.
-pub fn seek(sheet: &[u32], h: Header, any: bool, k: u32, mark: u32, class: u32, number: u32) -> u32
-    requires { ⌜ NodesFormed (now sheet) h × (mark ≡ 2 ^ k) × (0 < mark) ⌝ }
-    ensures { λ r. ⌜ FirstStanding (stands (now (sheet .entry)) any (suc k) class number) (h .nodes) r ⌝ }
+// The first node row of the type and the number that the seat's office has, or any office where `any` says so; the node count where there is none.
+pub fn seek(sheet: &[u32], h: Header, any: bool, seat: Seat, class: u32, number: u32) -> u32
+    requires { ⌜ NodesFormed (now sheet) h × Seated seat ⌝ }
+    ensures { λ r. ⌜ FirstStanding (stands (now (sheet .entry)) any (seat .office) class number) (h .nodes) r ⌝ }
 {
     let n = h.nodes;
     let mut i: u32 = 0;
     while i < n {
         let r = sheet::node_at(sheet, i as usize);
-        if is_standing(r, any, mark, class, number) {
+        if is_standing(r, any, seat, class, number) {
             return i;
         }
         i += 1;
@@ -65,6 +69,17 @@ pub fn mark_of(k: u32) -> u32
     ensures { λ r. ⌜ (r ≡ 2 ^ k) × (0 < r) ⌝ }
 {
     1u32 << k
+}
+
+// The seat of an office.
+pub fn seat_at(office: u32) -> Seat
+    requires { ⌜ (0 < office) × (office ≤ maxOffices) ⌝ }
+    ensures { λ r. ⌜ (r ≡ seatAt office) × Seated r ⌝ }
+{
+    Seat {
+        office: office,
+        mark: mark_of(office - 1),
+    }
 }
 
 // 20 where there is no such office.

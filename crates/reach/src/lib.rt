@@ -4,6 +4,7 @@ use walk::Walk;
 ghost use Prim.Native.Nat.{_<_, _≤_};
 ghost use lib.ListN.{length};
 ghost use Rattle.sheet.specs.Accepted.{WellFormed};
+ghost use Rattle.sheet.specs.Seats.{Seated};
 ghost use Rattle.walk.specs.Arcs.{Arranged};
 ghost use Rattle.reach.specs.Found.{Puts};
 ghost use Rattle.reach.specs.Reaching.{ReachedFrom};
@@ -36,7 +37,7 @@ pub fn person_reach(
     index: &[u32],
     from: u32,
 ) -> [u32; ROWS]
-    requires { ⌜ WellFormed (now sheet) (now edges) h × (0 < w .mark) × Arranged (now sheet) (now edges) h w (now index) × (from < h .nodes) ⌝ }
+    requires { ⌜ WellFormed (now sheet) (now edges) h × Seated (w .seat) × Arranged (now sheet) (now edges) h w (now index) × (from < h .nodes) ⌝ }
     ensures { λ r. ⌜ ReachedFrom (now (sheet .entry)) (now (edges .entry)) h w from r ⌝ }
 {
     walk::reach(sheet, edges, h, w, index, from)

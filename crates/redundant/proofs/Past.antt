@@ -1,6 +1,6 @@
 -- The other steps of a row's walk lead from its one end to the other exactly if it is redundant: by the link that the row is, a case for each kind. Other rows of the same relation make the same step.
 -- Assumes nothing.
-use Prim.Native.Nat.{ℕ, suc, _+_, _/_, _%_, _^_, _<_, _≤_}
+use Prim.Native.Nat.{ℕ, suc, _+_, _<_, _≤_}
 use native.Mathlib.Omega.{arith}
 use mathlib.Core.Path.{_≡_, refl, sym, ap, subst, _∙_}
 use mathlib.Core.Bool.{Bool, true, false}
@@ -10,9 +10,10 @@ use lib.ListN.{length}
 use Rattle.tables.specs.Key.{Key, relation}
 use Rattle.tables.specs.Office.{View}
 use Rattle.sheet.specs.declared.Edge.{Edge}
+use Rattle.sheet.specs.declared.Seat.{Seat}
 use Rattle.sheet.specs.Rows.{headerOf, nodeAt, edgeAt, edgeTable, nodeKeyAt}
 use Rattle.sheet.specs.Accepted.{Accepted}
-use Rattle.sheet.specs.Named.{seenAt}
+use Rattle.sheet.specs.Seats.{countsAt, seenFrom}
 use Rattle.paths.specs.Leads.{leads, Reach, here, more, Beyond}
 use Rattle.paths.specs.Steps.{Reached, start, then}
 use Rattle.paths.specs.Best.{Trail, ends, goes}
@@ -38,9 +39,9 @@ unrolled : (R : ℕ → ℕ → Type 0) (x y : ℕ) {n z : ℕ} {l : List ℕ} �
 unrolled R x y {l = l} (start e) w = (l, subst (λ (q : ℕ). Trail R (λ q. q ≡ y) q l) e w)
 unrolled R x y (then r st) w = unrolled R x y r (goes st w)
 
-module _ (s : List ℕ) (acc : Accepted s) (k : ℕ) (side : Side) (j : ℕ) where
+module _ (s : List ℕ) (acc : Accepted s) (seat : Seat) (side : Side) (j : ℕ) where
   abbrev g : View
-  g = seenAt s (suc k)
+  g = seenFrom s seat
 
   abbrev edge : ℕ → Edge
   edge i = edgeAt (edgeTable s) i
@@ -56,7 +57,7 @@ module _ (s : List ℕ) (acc : Accepted s) (k : ℕ) (side : Side) (j : ℕ) whe
 
   -- the walk for any deed
   abbrev w : Walk
-  w = walkFor k side 0
+  w = walkFor seat side 0
 
   -- the walk but for the row's own step
   abbrev past : Walk
@@ -73,7 +74,7 @@ module _ (s : List ℕ) (acc : Accepted s) (k : ℕ) (side : Side) (j : ℕ) whe
   -- a link by another row
   record Aside (a b : ℕ) : Type 0 where
     pub for : ℕ
-    pub link : Link s acc k side for a b
+    pub link : Link s acc seat side for a b
     pub inside : b < headerOf s .nodes
     pub apart : a ≡ from → b ≡ to → ⊥
 
@@ -81,19 +82,19 @@ module _ (s : List ℕ) (acc : Accepted s) (k : ℕ) (side : Side) (j : ℕ) whe
   module _ (inside : j < headerOf s .edges) (taken : takes w (edge j) (nodeAt s to) ≡ true) (straight : turned w (edge j) ≡ false) where
     own-kind : (i : ℕ) → takes w (edge i) (nodeAt s (edge i .to)) ≡ true → Own side (edge i .kind)
     unfolding takes
-    own-kind i e = own-of side (edge i .kind) _ (and-right (eqb (edge i .offices / 2 ^ k % 2) 1) _ e)
+    own-kind i e = own-of side (edge i .kind) _ (and-right (countsAt seat (edge i)) _ e)
 
     -- ---- each other step is a link with other ends, and each such link is another step
 
     aside-of : (a b : ℕ) → Other a b → Aside a b
     aside-of a b x =
-        let y = other-step s (edgeTable s) (2 ^ k) (rightKind side) 0 from to (headerOf s .edges) a b x in
-        let o = any-step s acc k side 0 a b y in
+        let y = other-step s (edgeTable s) seat (rightKind side) 0 from to (headerOf s .edges) a b x in
+        let o = any-step s acc seat side 0 a b y in
         record {
           for = o .0;
-          link = link-of s acc k side (o .0) (o .1) a b (o .3);
+          link = link-of s acc seat side (o .0) (o .1) a b (o .3);
           inside = step-inside s (edgeTable s) (headerOf s) past acc a b x .1;
-          apart = other-apart s (edgeTable s) (2 ^ k) (rightKind side) 0 from to (headerOf s .edges) a b x;
+          apart = other-apart s (edgeTable s) seat (rightKind side) 0 from to (headerOf s .edges) a b x;
         }
 
     -- the ends of row j
@@ -105,12 +106,12 @@ module _ (s : List ℕ) (acc : Accepted s) (k : ℕ) (side : Side) (j : ℕ) whe
     unfolding headOf
     enters-to = rw straight
 
-    past-step : (a b : ℕ) → Step s acc k side 0 a b → (a ≡ from → b ≡ to → ⊥) → Other a b
-    past-step a b x apart = step-other s (edgeTable s) (2 ^ k) (rightKind side) 0 from to (headerOf s .edges) a b x apart
+    past-step : (a b : ℕ) → Step s acc seat side 0 a b → (a ≡ from → b ≡ to → ⊥) → Other a b
+    past-step a b x apart = step-other s (edgeTable s) seat (rightKind side) 0 from to (headerOf s .edges) a b x apart
 
     -- ---- where a walk by other steps leads: types never fall, and from a deed on they rise
 
-    rises : (d a b : ℕ) → Link s acc k side d a b → (class a ≤ class b) × (3 ≤ class a → class a < class b)
+    rises : (d a b : ℕ) → Link s acc seat side d a b → (class a ≤ class b) × (3 ≤ class a → class a < class b)
     rises d a b (joins p c u v m) = let x : class a ≡ 1 = cc in let y : class b ≡ 2 = cc in (omega arith, λ h. omega arith)
     rises d a b (climbs c c′ u v m) = let x : class a ≡ 2 = cc in let y : class b ≡ 2 = cc in (omega arith, λ h. omega arith)
     rises d a b (gives-right c v u v′ m) = let x : class a ≡ 2 = cc in let y : class b ≡ 3 = cc in (omega arith, λ h. omega arith)
@@ -141,7 +142,7 @@ module _ (s : List ℕ) (acc : Accepted s) (k : ℕ) (side : Side) (j : ℕ) whe
     to-in = acc .edges .shaped j inside .to
 
     one-node : (a b : ℕ) (x : Key) → a < headerOf s .nodes → b < headerOf s .nodes → nodeKeyAt s a ≡ x → nodeKeyAt s b ≡ x → a ≡ b
-    one-node a b x l m p q = same-row s acc k side 0 a b x l m p q
+    one-node a b x l m p q = same-row s acc seat side 0 a b x l m p q
 
     same-number : (a b c c′ : ℕ) → a ≡ b → nodeKeyAt s a ≡ category c → nodeKeyAt s b ≡ category c′ → c ≡ c′
     same-number a b c c′ e p q = let r : category c ≡ category c′ = sym p ∙ ap (nodeKeyAt s) e ∙ q in cc
@@ -176,7 +177,7 @@ module _ (s : List ℕ) (acc : Accepted s) (k : ℕ) (side : Side) (j : ℕ) whe
         A : Aside z b
         A = aside-of z b st
 
-        by : Link s acc k side (A .for) z b → ((c′ : ℕ) → nodeKeyAt s b ≡ category c′ → Reach R c′ y) → Reach R c y
+        by : Link s acc seat side (A .for) z b → ((c′ : ℕ) → nodeKeyAt s b ≡ category c′ → Reach R c′ y) → Reach R c y
         by (joins p c′ u x m) later = absurd (let i : _≡_ {A = ℕ} 1 2 = cc in omega arith)
         by (climbs c₁ c₂ u x m) later =
             let i : c₁ ≡ c = cc in
@@ -201,7 +202,7 @@ module _ (s : List ℕ) (acc : Accepted s) (k : ℕ) (side : Side) (j : ℕ) whe
         A : Aside z b
         A = aside-of z b st
 
-        by : Link s acc k side (A .for) z b → ((c′ : ℕ) → nodeKeyAt s b ≡ category c′ → Lent c′ d v) → Lent c d v
+        by : Link s acc seat side (A .for) z b → ((c′ : ℕ) → nodeKeyAt s b ≡ category c′ → Lent c′ d v) → Lent c d v
         by (joins p c′ u x m) later = absurd (let i : _≡_ {A = ℕ} 1 2 = cc in omega arith)
         by (climbs c₁ c₂ u x m) later =
             let i : c₁ ≡ c = cc in
@@ -236,7 +237,7 @@ module _ (s : List ℕ) (acc : Accepted s) (k : ℕ) (side : Side) (j : ℕ) whe
     past-member : (p y : ℕ) → nodeKeyAt s from ≡ person p → nodeKeyAt s to ≡ category y → Past → Elsewhere p y
     past-member p y u v P = go from refl (listed P .0) (listed P .1)
       where
-        by : (z b : ℕ) (l : List ℕ) → z ≡ from → (A : Aside z b) → Link s acc k side (A .for) z b → Way-on b l → Elsewhere p y
+        by : (z b : ℕ) (l : List ℕ) → z ≡ from → (A : Aside z b) → Link s acc seat side (A .for) z b → Way-on b l → Elsewhere p y
         by z b l e A (joins p′ c x x′ m) w′ =
             let a : person p′ ≡ person p = sym x ∙ ap (nodeKeyAt s) e ∙ u in
             let i : p′ ≡ p = cc in
@@ -290,7 +291,7 @@ module _ (s : List ℕ) (acc : Accepted s) (k : ℕ) (side : Side) (j : ℕ) whe
     climbed : (R : ℕ → ℕ → Bool) → Climbs R → (c c′ : ℕ) → Landed c → Reach R c c′ → Landed c′
     climbed R C c c′ a here = a
     climbed R C c c′ a (more {b = b} e r) =
-        let o = step-arc s acc k side 0 (a .row) c b (a .row-in) (a .names) (C .is-step c b e) in
+        let o = step-arc s acc seat side 0 (a .row) c b (a .row-in) (a .names) (C .is-step c b e) in
         climbed R C b c′
         (record { steps = suc (a .steps); row = o .row; reached = then (a .reached) (past-step (a .row) (o .row) (o .arc) (C .apart (a .row) (o .row) c b (a .names) (o .names) e)); row-in = o .inside; names = o .names }) r
 
@@ -303,7 +304,7 @@ module _ (s : List ℕ) (acc : Accepted s) (k : ℕ) (side : Side) (j : ℕ) whe
 
     member-past : (p y : ℕ) → nodeKeyAt s from ≡ person p → nodeKeyAt s to ≡ category y → Elsewhere p y → Past
     member-past p y u v e =
-        let o = member-arc s acc k side 0 from p (e .0) from-in u (e .2) in
+        let o = member-arc s acc seat side 0 from p (e .0) from-in u (e .2) in
         let n : o .row ≡ to → ⊥ = λ q. e .1 (same-number (o .row) to (e .0) y q (o .names) v) in
         landed y v (climbed (step g side) (climb-all (λ q q′. let q″ : class from ≡ 1 = cc in omega arith)) (e .0) y
         (record { steps = 1; row = o .row; reached = then (start refl) (past-step from (o .row) (o .arc) (λ q. n)); row-in = o .inside; names = o .names })
@@ -315,8 +316,8 @@ module _ (s : List ℕ) (acc : Accepted s) (k : ℕ) (side : Side) (j : ℕ) whe
     right-past : (x d v : ℕ) → nodeKeyAt s from ≡ category x → nodeKeyAt s to ≡ deed d v → Borne x d v → Past
     right-past x d v u t e =
         let a = climbed (step g side) (climb-all (λ q q′. let q″ : class to ≡ 3 = cc in omega arith)) x (e .0) (outset x u) (more (e .2 .first) (e .2 .rest)) in
-        let o = right-arc s acc k side d (a .row) (e .0) v (a .row-in) (a .names) (e .3) in
-        let y = own-step s acc k side 0 d (a .row) (o .row) (λ n. absurd (n refl)) (o .arc) in
+        let o = right-arc s acc seat side d (a .row) (e .0) v (a .row-in) (a .names) (e .3) in
+        let y = own-step s acc seat side 0 d (a .row) (o .row) (λ n. absurd (n refl)) (o .arc) in
         record {
           steps = suc (a .steps);
           reached = then (a .reached) (subst (λ (z : ℕ). Other (a .row) z) (one-node (o .row) to (deed d v) (o .inside) to-in (o .names) t)
@@ -325,11 +326,11 @@ module _ (s : List ℕ) (acc : Accepted s) (k : ℕ) (side : Side) (j : ℕ) whe
 
     -- ---- by the link that row j is itself
 
-    own-link : (d : ℕ) × Link s acc k side d from to
+    own-link : (d : ℕ) × Link s acc seat side d from to
     unfolding arcAt
     own-link =
-        let o = any-step s acc k side 0 from to (record { row = j; inside = inside; is = taken; leaves = leaves-from; enters = enters-to }) in
-        (o .0, link-of s acc k side (o .0) (o .1) from to (o .3))
+        let o = any-step s acc seat side 0 from to (record { row = j; inside = inside; is = taken; leaves = leaves-from; enters = enters-to }) in
+        (o .0, link-of s acc seat side (o .0) (o .1) from to (o .3))
 
     kind-for : (n : ℕ) → class from + class to ≡ n → edge j .kind ≡ kindBy side n
     kind-for n e = kind-by side (edge j .kind) (class from) (class to) (own-kind j taken) (acc .edges .fit j inside .ends) ∙ ap (kindBy side) e
@@ -338,7 +339,7 @@ module _ (s : List ℕ) (acc : Accepted s) (k : ℕ) (side : Side) (j : ℕ) whe
       pub past-redundant : Past → Redundant g (relation (edge j .kind) (nodeKeyAt s from) (nodeKeyAt s to))
       past-redundant P = by (own-link .0) (own-link .1)
         where
-          by : (d : ℕ) → Link s acc k side d from to → Redundant g (relation (edge j .kind) (nodeKeyAt s from) (nodeKeyAt s to))
+          by : (d : ℕ) → Link s acc seat side d from to → Redundant g (relation (edge j .kind) (nodeKeyAt s from) (nodeKeyAt s to))
           by d (joins p y u v m) =
               let a : class from ≡ 1 = cc in
               let b : class to ≡ 2 = cc in

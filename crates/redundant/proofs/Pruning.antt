@@ -1,6 +1,6 @@
--- A marked row is redundant exactly if the numbers of its walk past it reach its to end: the grants' walk, or for a ban row the bans'.
+-- A row that counts is redundant exactly if the numbers of its walk past it reach its to end: the grants' walk, or for a ban row the bans'.
 -- Assumes nothing.
-use Prim.Native.Nat.{ℕ, suc, _/_, _%_, _^_, _<_, _≤_}
+use Prim.Native.Nat.{ℕ, suc, _<_, _≤_}
 use native.Mathlib.Omega.{arith}
 use mathlib.Core.Path.{_≡_, refl, sym, ap, subst, _∙_}
 use mathlib.Core.Bool.{Bool, true, false, not, _&&_, true≢false}
@@ -9,13 +9,14 @@ use mathlib.Core.Logic.{_⊎_, ⊎-elim}
 use lib.Dec.{eqb}
 use lib.ListN.{length, getD}
 use borrow.Author.Tests.{eqb-true, eq-eqb, not-false}
-use Rattle.tables.specs.Marks.{marked}
 use Rattle.sheet.specs.declared.Header.{Header}
 use Rattle.sheet.specs.declared.Edge.{Edge}
+use Rattle.sheet.specs.declared.Seat.{Seat}
 use Rattle.sheet.specs.Limits.{maxNodes}
 use Rattle.sheet.specs.Rows.{headerOf, edgeAt, edgeTable}
 use Rattle.sheet.specs.Accepted.{WellFormed, Accepted}
 use Rattle.sheet.specs.Named.{edgeRow}
+use Rattle.sheet.specs.Seats.{countsAt}
 use Rattle.paths.specs.Steps.{Layers}
 use Rattle.paths.proofs.Distances.{zero-or}
 use Rattle.paths.proofs.Tests.{both}
@@ -31,11 +32,11 @@ use Rattle.reach.proofs.Collecting.{Collected, collected-all}
 use Rattle.redundant.proofs.Taking.{ownTest, own-test}
 use Rattle.redundant.proofs.Past.{past-redundant, redundant-past}
 
-module _ (s : List ℕ) (k j : ℕ) (dist : List ℕ) (b : Bool) where
-  -- row j of the edge table t bears the office's mark, and b says whether the walk's numbers reach its to end
+module _ (s : List ℕ) (seat : Seat) (j : ℕ) (dist : List ℕ) (b : Bool) where
+  -- row j of the edge table t counts for the seat, and b says whether the walk's numbers reach its to end
   abbrev Judged : List ℕ → Header → Type 0
-  Judged t h = j < h .edges → marked (edgeAt t j .offices) (suc k) ≡ true → Layers (Steps s t (leavingOut (walkFor k (sideFor (edgeAt t j .kind)) 0) (stepOf (edgeAt t j))) (h .edges)) (λ x. x ≡ edgeAt t j .from) dist
-      → b ≡ not (eqb (getD dist (edgeAt t j .to) 0) 0) → Says b (RedundantRow s (suc k) j)
+  Judged t h = j < h .edges → countsAt seat (edgeAt t j) ≡ true → Layers (Steps s t (leavingOut (walkFor seat (sideFor (edgeAt t j .kind)) 0) (stepOf (edgeAt t j))) (h .edges)) (λ x. x ≡ edgeAt t j .from) dist
+      → b ≡ not (eqb (getD dist (edgeAt t j .to) 0) 0) → Says b (RedundantRow s (seat .office) j)
 
   judged-own : Accepted s → Judged (edgeTable s) (headerOf s)
   unfolding edgeRow takes
@@ -47,17 +48,17 @@ module _ (s : List ℕ) (k j : ℕ) (dist : List ℕ) (b : Bool) where
       tests : (ownTest (edge .kind) ≡ true) × ((eqb (rightKind (sideFor (edge .kind))) 4 && eqb (edge .kind) 2) ≡ false)
       tests = own-test (edge .kind) (kind-of (edge .kind) (acc .edges .shaped j l .kind-low) (acc .edges .shaped j l .kind-high))
 
-      says : (b : Bool) → b ≡ not (eqb (getD dist (edge .to) 0) 0) → Says b (RedundantRow s (suc k) j)
+      says : (b : Bool) → b ≡ not (eqb (getD dist (edge .to) 0) 0) → Says b (RedundantRow s (seat .office) j)
       says true e = ⊎-elim (λ z. absurd (true≢false (e ∙ ap not (eq-eqb (getD dist (edge .to) 0) 0 z)))) some (zero-or (getD dist (edge .to) 0))
         where
-          some : (n : ℕ) × (getD dist (edge .to) 0 ≡ suc n) → RedundantRow s (suc k) j
+          some : (n : ℕ) × (getD dist (edge .to) 0 ≡ suc n) → RedundantRow s (seat .office) j
           some n = record {
             inside = l;
             bears = m;
-            redundant = past-redundant s acc k (sideFor (edge .kind)) j l (both m (tests .0)) (tests .1) refl (record { steps = n .0; reached = y .sound (edge .to) (n .0) (n .1) });
+            redundant = past-redundant s acc seat (sideFor (edge .kind)) j l (both m (tests .0)) (tests .1) refl (record { steps = n .0; reached = y .sound (edge .to) (n .0) (n .1) });
           }
       says false e = λ r.
-          let p = redundant-past s acc k (sideFor (edge .kind)) j l (both m (tests .0)) (tests .1) refl (r .redundant) in
+          let p = redundant-past s acc seat (sideFor (edge .kind)) j l (both m (tests .0)) (tests .1) refl (r .redundant) in
           let n = y .least (edge .to) (p .steps) (p .reached) .0 in
           let z = eqb-true (getD dist (edge .to) 0) 0 (not-false _ (sym e)) in
           omega arith
@@ -67,33 +68,26 @@ module _ (s : List ℕ) (k j : ℕ) (dist : List ℕ) (b : Bool) where
 
 -- ---- the same, as the functions have it
 
--- a row without the mark is none of the office's
-pub unmarked : (s t : List ℕ) (h : Header) → WellFormed s t h → (k mark j : ℕ) (e : Edge) → e ≡ edgeAt t j → mark ≡ 2 ^ k → (e .offices / mark % 2 ≡ 1 → ⊥) → RedundantRow s (suc k) j → ⊥
+-- a row that does not count is none of the office's
+pub unmarked : (s t : List ℕ) (h : Header) → WellFormed s t h → (seat : Seat) (j : ℕ) (e : Edge) → e ≡ edgeAt t j → countsAt seat e ≡ false → RedundantRow s (seat .office) j → ⊥
 unfolding edgeRow
-unmarked s t h f k mark j e q m n r =
-    let b = eqb-true (edgeAt (edgeTable s) j .offices / 2 ^ k % 2) 1 (r .bears) in
-    n (rw (q, m, f .table) b)
+unmarked s t h f seat j e q n r = true≢false (sym (r .bears) ∙ rw (q, f .table) at n)
 
 -- the walk of the side by which the kind is judged
-pub past-by : (s t : List ℕ) (h : Header) (mark kind : ℕ) (but : LeftOut) (dist : List ℕ) (side : Side) → sideFor kind ≡ side
-    → (length dist ≡ maxNodes) × Layers (Steps s t (leavingOut (sideWalk mark side) but) (h .edges)) (λ x. x ≡ but .from) dist → PastRow s t h mark kind but dist
-past-by s t h mark kind but dist side e y =
-    record { long = y .0; layers = subst (λ (S : Side). Layers (Steps s t (leavingOut (sideWalk mark S) but) (h .edges)) (λ x. x ≡ but .from) dist) (sym e) (y .1) }
+pub past-by : (s t : List ℕ) (h : Header) (seat : Seat) (kind : ℕ) (but : LeftOut) (dist : List ℕ) (side : Side) → sideFor kind ≡ side
+    → (length dist ≡ maxNodes) × Layers (Steps s t (leavingOut (sideWalk seat side) but) (h .edges)) (λ x. x ≡ but .from) dist → PastRow s t h seat kind but dist
+past-by s t h seat kind but dist side e y =
+    record { long = y .0; layers = subst (λ (S : Side). Layers (Steps s t (leavingOut (sideWalk seat S) but) (h .edges)) (λ x. x ≡ but .from) dist) (sym e) (y .1) }
 
--- a marked row is redundant exactly if the numbers reach its to end
-pub redundant-by : (s t : List ℕ) (h : Header) → WellFormed s t h → (k mark j : ℕ) (e : Edge) (dist : List ℕ) (b : Bool) → e ≡ edgeAt t j → mark ≡ 2 ^ k → j < h .edges → e .offices / mark % 2 ≡ 1
-    → (but : LeftOut) → but ≡ stepOf e → PastRow s t h mark (e .kind) but dist → b ≡ not (eqb (getD dist (e .to) 0) 0) → Says b (RedundantRow s (suc k) j)
-redundant-by s t h f k mark j e dist b q m l o but z p =
-    subst (λ (x : Edge). x .offices / mark % 2 ≡ 1 → PastRow s t h mark (x .kind) (stepOf x) dist → b ≡ not (eqb (getD dist (x .to) 0) 0) → Says b (RedundantRow s (suc k) j)) (sym q) here-so
-    o (subst (λ (x : LeftOut). PastRow s t h mark (e .kind) x dist) z p)
-  where
-    here-so : edgeAt t j .offices / mark % 2 ≡ 1 → PastRow s t h mark (edgeAt t j .kind) (stepOf (edgeAt t j)) dist → b ≡ not (eqb (getD dist (edgeAt t j .to) 0) 0) → Says b (RedundantRow s (suc k) j)
-    here-so o p r =
-        judged s k j dist b t h f l (eq-eqb _ 1 (subst (λ (x : ℕ). edgeAt t j .offices / x % 2 ≡ 1) m o))
-        (subst (λ (x : ℕ). Layers (Steps s t (leavingOut (sideWalk x (sideFor (edgeAt t j .kind))) (stepOf (edgeAt t j))) (h .edges)) (λ y. y ≡ edgeAt t j .from) dist) m (p .layers)) r
+-- a row that counts is redundant exactly if the numbers reach its to end
+pub redundant-by : (s t : List ℕ) (h : Header) → WellFormed s t h → (seat : Seat) (j : ℕ) (e : Edge) (dist : List ℕ) (b : Bool) → e ≡ edgeAt t j → j < h .edges → countsAt seat e ≡ true
+    → (but : LeftOut) → but ≡ stepOf e → PastRow s t h seat (e .kind) but dist → b ≡ not (eqb (getD dist (e .to) 0) 0) → Says b (RedundantRow s (seat .office) j)
+redundant-by s t h f seat j e dist b q l o but z p =
+    subst (λ (x : Edge). countsAt seat x ≡ true → PastRow s t h seat (x .kind) (stepOf x) dist → b ≡ not (eqb (getD dist (x .to) 0) 0) → Says b (RedundantRow s (seat .office) j)) (sym q) (λ o p. judged s seat j dist b t h f l o (p .layers))
+    o (subst (λ (x : LeftOut). PastRow s t h seat (e .kind) x dist) z p)
 
 -- the rows collected are all that there are
-pub pruned-all : (s t : List ℕ) (h : Header) → WellFormed s t h → (k j : ℕ) (out : List ℕ) → h .edges ≤ j → Collected (RedundantRow s (suc k)) (λ i. i) j out → RedundantAre s (suc k) out
-pruned-all s t h f k j out l c =
-    collected-all _ _ j out (RedundantRow s (suc k)) c (λ x r. subst (RedundantRow s (suc k)) (r .is) (r .counts))
+pub pruned-all : (s t : List ℕ) (h : Header) → WellFormed s t h → (office j : ℕ) (out : List ℕ) → h .edges ≤ j → Collected (RedundantRow s office) (λ i. i) j out → RedundantAre s office out
+pruned-all s t h f office j out l c =
+    collected-all _ _ j out (RedundantRow s office) c (λ x r. subst (RedundantRow s office) (r .is) (r .counts))
     (λ x r. record { row = x; inside = let e = ap (λ (y : Header). y .edges) (f .head) in let i = r .inside in omega arith; counts = r; is = refl })

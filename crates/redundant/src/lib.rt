@@ -1,16 +1,17 @@
 // Question 10 at an office: the rows that are redundant, each judged by a walk without its step.
-use question::Question;
 use sheet::Edge;
 use sheet::Header;
+use sheet::Seat;
 use walk::LeftOut;
 ghost use mathlib.Core.Path.{_≡_};
-ghost use Prim.Native.Nat.{suc, _/_, _%_, _<_};
+ghost use Prim.Native.Nat.{_<_};
 ghost use lib.ListN.{length};
 ghost use Rattle.sheet.specs.Limits.{maxEdges};
 ghost use Rattle.sheet.specs.Accepted.{WellFormed};
+ghost use Rattle.sheet.specs.Seats.{Seated};
 ghost use Rattle.meaning.specs.Answers.{Says};
 ghost use Rattle.meaning.specs.Questions.{RedundantRow, RedundantAre};
-ghost use Rattle.question.specs.Checked.{AtOffice};
+ghost use Rattle.question.specs.Checked.{AtSeat};
 ghost use Rattle.reach.specs.Found.{Finds};
 ghost use Rattle.redundant.specs.Pruned.{BothArranged, stepOf, PastRow};
 
@@ -33,46 +34,45 @@ fn past_row(
     sheet: &[u32],
     edges: &[u32],
     h: Header,
-    mark: u32,
+    seat: Seat,
     kind: u32,
     grantindex: &[u32],
     banindex: &[u32],
     but: LeftOut,
 ) -> [u32; ROWS]
-    requires { ⌜ WellFormed (now sheet) (now edges) h × (0 < mark) × BothArranged (now sheet) (now edges) h mark (now grantindex) (now banindex) × (but .from < h .nodes) ⌝ }
-    ensures { λ r. ⌜ PastRow (now (sheet .entry)) (now (edges .entry)) h mark kind but r ⌝ }
+    requires { ⌜ WellFormed (now sheet) (now edges) h × Seated seat × BothArranged (now sheet) (now edges) h seat (now grantindex) (now banindex) × (but .from < h .nodes) ⌝ }
+    ensures { λ r. ⌜ PastRow (now (sheet .entry)) (now (edges .entry)) h seat kind but r ⌝ }
 {
     if kind == 4 {
-        let bans = walk::leaving_out(walk::walk_of(mark, 4, 0), but);
+        let bans = walk::leaving_out(walk::walk_of(seat, 4, 0), but);
         return walk::reach(sheet, edges, h, bans, banindex, but.from);
     }
-    let grants = walk::leaving_out(walk::walk_of(mark, 3, 0), but);
+    let grants = walk::leaving_out(walk::walk_of(seat, 3, 0), but);
     walk::reach(sheet, edges, h, grants, grantindex, but.from)
 }
 
-// Whether an edge row is marked and redundant at office k + 1: its to end is reached from its from end by other steps.
+// Whether an edge row counts for the seat and is redundant there: its to end is reached from its from end by other steps.
 fn is_redundant(
     sheet: &[u32],
     edges: &[u32],
     h: Header,
-    k: u32,
-    mark: u32,
+    seat: Seat,
     grantindex: &[u32],
     banindex: &[u32],
     j: u32,
 ) -> bool
-    requires { ⌜ AtOffice (now sheet) (now edges) h k mark × (j < h .edges) × BothArranged (now sheet) (now edges) h mark (now grantindex) (now banindex) ⌝ }
-    ensures { λ r. ⌜ Says r (RedundantRow (now (sheet .entry)) (suc k) j) ⌝ }
+    requires { ⌜ AtSeat (now sheet) (now edges) h seat × (j < h .edges) × BothArranged (now sheet) (now edges) h seat (now grantindex) (now banindex) ⌝ }
+    ensures { λ r. ⌜ Says r (RedundantRow (now (sheet .entry)) (seat .office) j) ⌝ }
 {
     let e = sheet::edge_at(edges, h, j as usize);
-    if e.offices / mark % 2 != 1 {
+    if !sheet::counts(seat, e) {
         return false;
     }
     let d = past_row(
         sheet,
         edges,
         h,
-        mark,
+        seat,
         e.kind,
         grantindex,
         banindex,
@@ -82,44 +82,36 @@ fn is_redundant(
     d[to] != 0
 }
 
-// The rows that are redundant at office k + 1, rising, by arcs that are in order.
+// The rows that are redundant from the seat, rising, by arcs that are in order.
 fn prune(
     sheet: &[u32],
     edges: &[u32],
     h: Header,
-    k: u32,
-    mark: u32,
+    seat: Seat,
     grantindex: &[u32],
     banindex: &[u32],
     list: &mut [u32],
 ) -> u32
-    requires { ⌜ AtOffice (now sheet) (now edges) h k mark × BothArranged (now sheet) (now edges) h mark (now grantindex) (now banindex) × (length (now list) ≡ maxEdges) ⌝ }
-    ensures { λ r. ⌜ Finds (RedundantAre (now (sheet .entry)) (suc k)) (now (list .exit)) r ⌝ }
+    requires { ⌜ AtSeat (now sheet) (now edges) h seat × BothArranged (now sheet) (now edges) h seat (now grantindex) (now banindex) × (length (now list) ≡ maxEdges) ⌝ }
+    ensures { λ r. ⌜ Finds (RedundantAre (now (sheet .entry)) (seat .office)) (now (list .exit)) r ⌝ }
 {
     let rows = h.edges;
     let mut n: u32 = 0;
     let mut j: u32 = 0;
     while j < rows {
-        let good = is_redundant(sheet, edges, h, k, mark, grantindex, banindex, j);
+        let good = is_redundant(sheet, edges, h, seat, grantindex, banindex, j);
         n = reach::put(list, n, good, j);
         j += 1;
     }
     n
 }
 
-// Question 10 at office k + 1: the rows that are redundant, rising.
-pub fn redundant_rows(
-    sheet: &[u32],
-    edges: &[u32],
-    h: Header,
-    k: u32,
-    mark: u32,
-    list: &mut [u32],
-) -> u32
-    requires { ⌜ AtOffice (now sheet) (now edges) h k mark × (length (now list) ≡ maxEdges) ⌝ }
-    ensures { λ r. ⌜ Finds (RedundantAre (now (sheet .entry)) (suc k)) (now (list .exit)) r ⌝ }
+// Question 10 from the seat: the rows that are redundant, rising.
+pub fn redundant_rows(sheet: &[u32], edges: &[u32], h: Header, seat: Seat, list: &mut [u32]) -> u32
+    requires { ⌜ AtSeat (now sheet) (now edges) h seat × (length (now list) ≡ maxEdges) ⌝ }
+    ensures { λ r. ⌜ Finds (RedundantAre (now (sheet .entry)) (seat .office)) (now (list .exit)) r ⌝ }
 {
-    let grantindex = walk::arranged(sheet, edges, h, walk::walk_of(mark, 3, 0));
-    let banindex = walk::arranged(sheet, edges, h, walk::walk_of(mark, 4, 0));
-    prune(sheet, edges, h, k, mark, &grantindex, &banindex, list)
+    let grantindex = walk::arranged(sheet, edges, h, walk::walk_of(seat, 3, 0));
+    let banindex = walk::arranged(sheet, edges, h, walk::walk_of(seat, 4, 0));
+    prune(sheet, edges, h, seat, &grantindex, &banindex, list)
 }

@@ -1,12 +1,12 @@
 -- `ask::answer_checked` meets its contract: refused as the question stands, or the answer at the rows where it is placed.
 -- Assumes nothing.
-use Prim.Native.Nat.{ℕ}
 use mathlib.Core.Path.{refl, sym, subst, _∙_}
 use borrow.Author.Needs.{needs}
 use Rattle.sheet.proofs.Forming.{words-of}
 use Rattle.question.proofs.Telling.{reply-refused, reply-told}
 use Rattle.meaning.specs.Answers.{AnswerIs}
-use Rattle.sheet.specs.Named.{seenAt}
+use Rattle.sheet.specs.declared.Seat.{Seat}
+use Rattle.sheet.specs.Seats.{seenFrom}
 use Rattle.ask.proofs.answer_checked.Statement.{statement}
 use Rattle.ask.proofs.answer_checked.Tie as tie
 
@@ -23,7 +23,7 @@ answer-at-requires : tie.Need-answer-at-requires
 answer-at-requires c κs = let S = c .before .before .before .before .before in
     let T = c .before .before .stand-of .ensures in
     let z = c .if1 .left in
-    (record { formed = S .pre; mark-is = T .mark z .0; mark-some = T .mark z .1 }, T .placed z)
+    (record { formed = S .pre; seated = T .seat z .1 }, T .placed z)
 
 told-requires : tie.Need-told-requires
 told-requires c κs = search needs
@@ -33,7 +33,7 @@ returns-2 c = let S = c .before .before .before .before .before .before .before 
     let T = c .before .before .before .before .stand-of .ensures in
     let z = c .before .before .if1 .left in
     reply-told _ _ _ _ _ (sym (T .number) ∙ z)
-    (subst (λ (x : ℕ). AnswerIs (seenAt (S .args .sheet .now) x) (S .args .q .person) (S .args .q .deed) (S .args .q .folio) (c .before .answer-at .result)) (sym (T .office z)) (c .before .answer-at .ensures), refl)
+    (subst (λ (x : Seat). AnswerIs (seenFrom (S .args .sheet .now) x) (S .args .q .person) (S .args .q .deed) (S .args .q .folio) (c .before .answer-at .result)) (T .seat z .0) (c .before .answer-at .ensures), refl)
     (c .told .ensures)
 
 pub answer-checked-spec : {M : Type 1} → statement M

@@ -2,6 +2,7 @@
 -- Assumes nothing.
 use Prim.Native.Nat.{ℕ, suc, _-_, _<_, _≤_}
 use mathlib.Core.Path.{_≡_, refl, _∙_}
+use native.Mathlib.Numerals.{add-one}
 use native.Mathlib.Omega.{arith}
 use lib.ListN.{length, getD, length-set}
 use borrow.Author.Needs.{needs}
@@ -21,14 +22,17 @@ abbrev μ-loop : tie.MeasureT-loop
 loop-holds : tie.Need-loop-holds Inv-loop μ-loop
 loop-holds c = (search needs, refl, λ i l. absurd (omega arith))
 
-mark-of-requires : tie.Need-mark-of-requires Inv-loop μ-loop
-mark-of-requires c κs = omega (arith, c .loop-test .taken, c .before .before .before .before .pre .nodes .header)
+add-seat-at : tie.Need-add-seat-at Inv-loop μ-loop
+add-seat-at c = omega arith
+
+seat-at-requires : tie.Need-seat-at-requires Inv-loop μ-loop
+seat-at-requires c κs = (omega arith, omega (arith, c .loop-test .taken, c .before .before .before .before .pre .nodes .header))
 
 cast-at : tie.Need-cast-at Inv-loop μ-loop
 cast-at c = search needs
 
 office-answer-requires : tie.Need-office-answer-requires Inv-loop μ-loop
-office-answer-requires c κs = record { formed = c .before .before .before .before .before .pre; mark-is = c .mark-of .ensures .0; mark-some = c .mark-of .ensures .1 }
+office-answer-requires c κs = record { formed = c .before .before .before .before .before .pre; seated = c .seat-at .ensures .1 }
 
 mul-rs : tie.Need-mul-rs Inv-loop μ-loop
 mul-rs c = search needs
@@ -45,7 +49,7 @@ loop-less c = omega arith
 loop-again : tie.Need-loop-again Inv-loop μ-loop
 loop-again c = let L = c .before .before .before .loop in
     let S = c .before .before .before .before .before .before in
-    (omega arith, length-set {A = ℕ} (L .rs) (L .k) (c .office-answer .result) ∙ L .inv .1, one-more (λ i r. AnswerIs (seenAt (S .args .sheet .now) (suc i)) (S .args .q .person) (S .args .q .deed) (S .args .q .folio) r) (L .rs) (L .k) (c .office-answer .result) (omega (arith, L .inv .1, S .pre .nodes .header)) (L .inv .2) (c .office-answer .ensures))
+    (omega arith, length-set {A = ℕ} (L .rs) (L .k) (c .office-answer .result) ∙ L .inv .1, one-more (λ i r. AnswerIs (seenAt (S .args .sheet .now) (suc i)) (S .args .q .person) (S .args .q .deed) (S .args .q .folio) r) (L .rs) (L .k) (c .office-answer .result) (omega (arith, L .inv .1, S .pre .nodes .header)) (L .inv .2) (rw (c .before .seat-at .ensures .0, add-one) at (c .office-answer .ensures)))
 
 returns : tie.Need-returns Inv-loop μ-loop
 returns c = let L = c .before .loop in
@@ -58,7 +62,8 @@ answers-of-spec =
     Inv-loop
     μ-loop
     loop-holds
-    mark-of-requires
+    add-seat-at
+    seat-at-requires
     cast-at
     office-answer-requires
     mul-rs

@@ -1,9 +1,9 @@
 -- `ask::has_path` meets its contract: the number of steps from the person's row to the folio's is 0 exactly where no path leads there.
 -- Assumes nothing.
-use mathlib.Core.Path.{_≡_, refl, ap, subst}
+use mathlib.Core.Path.{_≡_, refl, subst}
 use native.Mathlib.Omega.{arith}
 use borrow.Author.Needs.{needs}
-use Rattle.ask.proofs.Deciding.{reach-says, walk-is}
+use Rattle.ask.proofs.Deciding.{reach-says}
 use Rattle.sheet.proofs.Forming.{nodes-same}
 use Rattle.question.specs.Asked.{sideOf}
 use Rattle.paths.specs.Steps.{Layers}
@@ -17,8 +17,7 @@ walk-for-requires c κs = search needs
 
 measured-requires : tie.Need-measured-requires
 measured-requires c κs = let S = c .before .before .before .pre in
-    let m = ap (λ (x : Walk). x .mark) (c .walk-for .ensures) in
-    (S .0 .formed, omega (arith, S .0 .mark-some), omega (arith, nodes-same _ _ _ (S .0 .formed), S .1 .folio-in))
+    (S .0 .formed, rw (c .walk-for .ensures) (S .0 .seated), omega (arith, nodes-same _ _ _ (S .0 .formed), S .1 .folio-in))
 
 mul-result : tie.Need-mul-result
 mul-result c = search needs
@@ -28,9 +27,8 @@ array-read-result c = let S = c .before .before .before .before .pre in omega (a
 
 returns : tie.Need-returns
 returns c = let S = c .before .before .before .before in
-    let w = walk-is (c .before .walk-for .result) (S .args .k) (S .args .mark) (S .args .kind) (S .args .q .deed) (c .before .walk-for .ensures) (S .pre .0 .mark-is) in
-    reach-says (S .args .sheet .now) (S .args .edges .now) (S .args .h) (S .pre .0 .formed) (S .args .k) (sideOf (S .args .kind)) (S .args .q) (S .args .rp) (S .args .rf) (S .pre .1) (c .measured .result)
-    (subst (λ (x : Walk). Layers (Steps (S .args .sheet .now) (S .args .edges .now) (reversed x) (S .args .h .edges)) (λ y. y ≡ S .args .rf) (c .measured .result)) w (c .measured .ensures .1)) _ refl
+    reach-says (S .args .sheet .now) (S .args .edges .now) (S .args .h) (S .pre .0 .formed) (S .args .seat) (sideOf (S .args .kind)) (S .args .q) (S .args .rp) (S .args .rf) (S .pre .1) (c .measured .result)
+    (subst (λ (x : Walk). Layers (Steps (S .args .sheet .now) (S .args .edges .now) (reversed x) (S .args .h .edges)) (λ y. y ≡ S .args .rf) (c .measured .result)) (c .before .walk-for .ensures) (c .measured .ensures .1)) _ refl
 
 pub has-path-spec : {M : Type 1} → statement M
 has-path-spec =

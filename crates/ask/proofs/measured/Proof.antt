@@ -19,7 +19,7 @@ slice-aggregate-layers c = search needs
 layers-requires : tie.Need-layers-requires
 layers-requires c κs = let S = c .before .before .before .before .before .pre in
     let T = c .before .before .target .ensures in
-    (record { formed = S .0; mark = rw (c .before .reversed .ensures) (S .1); room = omega (arith, T .long, S .0 .nodes .header) }, target-low _ _ T, omega (arith, T .long))
+    (record { formed = S .0; seated = rw (c .before .reversed .ensures) (S .1); room = omega (arith, T .long, S .0 .nodes .header) }, target-low _ _ T, omega (arith, T .long))
 
 returns : tie.Need-returns
 returns c = let L = c .before .layers in

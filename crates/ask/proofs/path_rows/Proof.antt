@@ -17,12 +17,12 @@ slice-aggregate-trace-2 c = search needs
 trace-requires : tie.Need-trace-requires
 trace-requires c κs = let P = c .before .before .before .before .before .pre in
     let e = c .before .before .walk-for .ensures in
-    (trace-ready _ _ _ _ _ (P .0) _ _ _ (P .1) _ (P .2) _ e, trace-layers _ _ _ _ _ (P .0) _ _ _ (P .1) _ (P .2) _ e, trace-from _ _ _ _ _ (P .0) _ _ _ (P .1) _ (P .2) _ e, P .3, trace-room _ _ _ _ _ (P .0) _ _ _ (P .1) _ (P .2) _ e)
+    (trace-ready _ _ _ _ (P .0) _ _ _ (P .1) _ (P .2) _ e, trace-layers _ _ _ _ (P .0) _ _ _ (P .1) _ (P .2) _ e, trace-from _ _ _ _ (P .0) _ _ _ (P .1) _ (P .2) _ e, P .3, trace-room _ _ _ _ (P .0) _ _ _ (P .1) _ (P .2) _ e)
 
 returns : tie.Need-returns
 returns c = let P = c .before .before .before .before .before .before .before .pre in
     let e = c .before .before .before .before .walk-for .ensures in
-    trace-rows _ _ _ _ _ (P .0) _ _ _ (P .1) _ (P .2) _ e _ _ _ (c .before .trace .ensures)
+    trace-rows _ _ _ _ (P .0) _ _ _ (P .1) _ (P .2) _ e _ _ _ (c .before .trace .ensures)
 
 pub path-rows-spec : {M : Type 1} → statement M
 path-rows-spec =

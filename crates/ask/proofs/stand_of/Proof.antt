@@ -1,10 +1,11 @@
--- `ask::stand_of` meets its contract: 20 where there is no such office, or else how the question stands at the office counted from 0.
+-- `ask::stand_of` meets its contract: 20 where there is no such office; else the rows that were looked up tell who is unknown, and place the question where nobody is.
 -- Assumes nothing.
 use mathlib.Core.Path.{sym, _∙_}
 use native.Mathlib.Omega.{arith}
 use borrow.Author.Needs.{needs}
+use Rattle.sheet.proofs.Forming.{nodes-of}
 use Rattle.question.proofs.Telling.{fits-office}
-use Rattle.ask.proofs.Standing.{stand-none}
+use Rattle.ask.proofs.Standing.{stand-none, stand-made}
 use Rattle.ask.proofs.stand_of.Statement.{statement}
 use Rattle.ask.proofs.stand_of.Tie as tie
 
@@ -14,19 +15,28 @@ bad-office-requires c κs = search needs
 returns : tie.Need-returns
 returns c = stand-none _ _ _ _ (c .before .before .before .pre .1) (c .before .bad-office .ensures) (c .if1 .taken)
 
-sub-stand-at : tie.Need-sub-stand-at
-sub-stand-at c = let f = fits-office _ _ (sym (c .before .before .bad-office .ensures) ∙ c .before .if1 .left) in f .0
+seat-at-requires : tie.Need-seat-at-requires
+seat-at-requires c κs = let P = c .before .before .before .pre in
+    let f = fits-office _ _ (sym (c .before .bad-office .ensures) ∙ c .if1 .left) in
+    (f .0, omega (arith, f .1, nodes-of _ (P .0) _ (P .1) .header .offices-high))
 
-stand-at-requires : tie.Need-stand-at-requires
-stand-at-requires c κs = let P = c .before .before .before .before .pre in
-    let f = fits-office _ _ (sym (c .before .before .bad-office .ensures) ∙ c .before .if1 .left) in
-    let f0 = f .0 in
-    let f1 = f .1 in
-    (P .0, P .1, omega arith, omega arith)
+places-of-requires : tie.Need-places-of-requires
+places-of-requires c κs = let P = c .before .before .before .before .pre in (nodes-of _ (P .0) _ (P .1), c .seat-at .ensures .1)
+
+unknown-of-requires : tie.Need-unknown-of-requires
+unknown-of-requires c κs = search needs
 
 returns-2 : tie.Need-returns-2
-returns-2 c = search needs
+returns-2 c = let P = c .before .before .before .before .before .before .pre in
+    stand-made _ (P .0) _ (P .1) (c .before .before .before .before .before .before .args .q) (sym (c .before .before .before .before .bad-office .ensures) ∙ c .before .before .before .if1 .left) _ (c .before .before .seat-at .ensures) _ (c .before .places-of .ensures) _ (c .unknown-of .ensures)
 
 pub stand-of-spec : {M : Type 1} → statement M
 stand-of-spec =
-    tie.close (tie.spec bad-office-requires returns sub-stand-at stand-at-requires returns-2)
+    tie.close
+    (tie.spec
+    bad-office-requires
+    returns
+    seat-at-requires
+    places-of-requires
+    unknown-of-requires
+    returns-2)

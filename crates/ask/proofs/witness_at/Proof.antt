@@ -1,12 +1,11 @@
 -- `ask::witness_at` meets its contract: a number of 0 means that there is no path, and else the rows traced are the path.
 -- Assumes nothing.
-use mathlib.Core.Path.{refl, ap}
+use mathlib.Core.Path.{refl}
 use native.Mathlib.Omega.{arith}
 use borrow.Author.Needs.{needs}
 use Rattle.sheet.proofs.Forming.{nodes-same}
 use Rattle.ask.proofs.Showing.{measured-so, no-witness, first-long}
 use Rattle.question.proofs.Telling.{show-missing, show-short, show-written}
-use Rattle.walk.specs.declared.Walk.{Walk}
 use Rattle.ask.proofs.witness_at.Statement.{statement}
 use Rattle.ask.proofs.witness_at.Tie as tie
 
@@ -15,8 +14,7 @@ walk-for-requires c κs = search needs
 
 measured-requires : tie.Need-measured-requires
 measured-requires c κs = let S = c .before .before .before .before .pre in
-    let m = ap (λ (x : Walk). x .mark) (c .walk-for .ensures) in
-    (S .0 .formed, omega (arith, S .0 .mark-some), omega (arith, nodes-same _ _ _ (S .0 .formed), S .1 .folio-in))
+    (S .0 .formed, rw (c .walk-for .ensures) (S .0 .seated), omega (arith, nodes-same _ _ _ (S .0 .formed), S .1 .folio-in))
 
 mul-n : tie.Need-mul-n
 mul-n c = search needs
@@ -29,12 +27,12 @@ refused-by-requires c κs = search needs
 
 returns : tie.Need-returns
 returns c = let S = c .before .before .before .before .before .before .before .pre in
-    let M = measured-so _ _ _ _ _ (S .0) _ _ _ (c .before .before .before .walk-for .ensures) _ (c .before .before .measured .ensures) in
-    show-missing _ _ _ _ (no-witness _ _ _ _ _ (S .0) _ _ _ (S .1) _ M (c .before .if1 .taken)) (c .refused-by .ensures) refl
+    let M = measured-so _ _ _ _ _ _ _ (c .before .before .before .walk-for .ensures) _ (c .before .before .measured .ensures) in
+    show-missing _ _ _ _ (no-witness _ _ _ _ (S .0) _ _ _ (S .1) _ M (c .before .if1 .taken)) (c .refused-by .ensures) refl
 
 path-rows-requires : tie.Need-path-rows-requires
 path-rows-requires c κs = let S = c .before .before .before .before .before .before .pre in
-    let M = measured-so _ _ _ _ _ (S .0) _ _ _ (c .before .before .walk-for .ensures) _ (c .before .measured .ensures) in
+    let M = measured-so _ _ _ _ _ _ _ (c .before .before .walk-for .ensures) _ (c .before .measured .ensures) in
     (S .0, S .1, M, omega (arith, c .if1 .left))
 
 cast-m : tie.Need-cast-m

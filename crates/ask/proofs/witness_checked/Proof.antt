@@ -1,10 +1,10 @@
--- `ask::witness_checked` meets its contract: refused as the question stands, or the witness at the office asked, which is office k + 1.
+-- `ask::witness_checked` meets its contract: refused as the question stands, or the witness from the seat asked.
 -- Assumes nothing.
 use mathlib.Core.Path.{refl, sym, _∙_}
 use borrow.Author.Needs.{needs}
 use Rattle.sheet.proofs.Forming.{words-of}
 use Rattle.question.proofs.Telling.{show-refused, show-stands}
-use Rattle.ask.proofs.Standing.{show-office}
+use Rattle.ask.proofs.Standing.{show-seat}
 use Rattle.ask.proofs.witness_checked.Statement.{statement}
 use Rattle.ask.proofs.witness_checked.Tie as tie
 
@@ -21,7 +21,7 @@ witness-at-requires : tie.Need-witness-at-requires
 witness-at-requires c κs = let S = c .before .before .before .before .before .before .before in
     let T = c .before .before .before .stand-of .ensures in
     let z = c .before .if1 .left in
-    (record { formed = S .pre; mark-is = T .mark z .0; mark-some = T .mark z .1 }, T .placed z)
+    (record { formed = S .pre; seated = T .seat z .1 }, T .placed z)
 
 same-length : tie.Need-same-length
 same-length c = search needs
@@ -29,7 +29,7 @@ same-length c = search needs
 returns-2 : tie.Need-returns-2
 returns-2 c = let T = c .before .before .before .before .before .before .stand-of .ensures in
     let z = c .before .before .before .before .if1 .left in
-    show-stands _ _ _ _ _ (sym (T .number) ∙ z) (show-office _ _ _ _ _ _ _ _ _ _ _ (T .office z) (c .before .before .witness-at .ensures))
+    show-stands _ _ _ _ _ (sym (T .number) ∙ z) (show-seat _ (c .before .before .before .before .before .before .before .before .before .before .args .q) _ _ _ _ _ (T .seat z .0) (c .before .before .witness-at .ensures))
 
 pub witness-checked-spec : {M : Type 1} → statement M
 witness-checked-spec =

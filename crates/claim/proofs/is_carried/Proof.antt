@@ -1,10 +1,9 @@
 -- `claim::is_carried` meets its contract: the right and the folio it applies to are two relations between identities that are named.
 -- Assumes nothing.
-use Prim.Native.Nat.{suc}
 use borrow.Author.Needs.{needs}
 use Rattle.claim.proofs.Listing.{relation-named, carries-by}
 use Rattle.question.specs.Asked.{sideOf}
-use Rattle.sheet.specs.Named.{seenAt}
+use Rattle.sheet.specs.Seats.{seenFrom}
 use Rattle.claim.proofs.is_carried.Statement.{statement}
 use Rattle.claim.proofs.is_carried.Tie as tie
 
@@ -28,7 +27,7 @@ is-related-requires-2 c κs = search needs
 
 returns : tie.Need-returns
 returns c = let S = c .before .before .before .before .before .before .before .before in
-    let g = seenAt (S .args .sheet .now) (suc (S .args .k)) in
+    let g = seenFrom (S .args .sheet .now) (S .args .seat) in
     let A = c .before .before .before .before .named in
     let B = c .before .before .before .named2 in
     let T = c .before .before .named3 in

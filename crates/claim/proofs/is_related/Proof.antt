@@ -12,10 +12,10 @@ use Rattle.claim.proofs.is_related.Statement.{statement}
 use Rattle.claim.proofs.is_related.Tie as tie
 
 abbrev Inv-loop : tie.InvT-loop
-Inv-loop sheet edges h k mark kind a b n j₀ j = (j ≤ n) × ((i : ℕ) → i < j → rowOf sheet edges mark kind a b i ≡ false)
+Inv-loop sheet edges h seat kind a b n j₀ j = (j ≤ n) × ((i : ℕ) → i < j → rowOf sheet edges seat kind a b i ≡ false)
 
 abbrev μ-loop : tie.MeasureT-loop
-μ-loop sheet edges h k mark kind a b n j₀ j = n - j
+μ-loop sheet edges h seat kind a b n j₀ j = n - j
 
 cast-n : tie.Need-cast-n Inv-loop μ-loop
 cast-n c = search needs
@@ -25,11 +25,11 @@ loop-holds c = (search needs, λ i l. absurd (omega arith))
 
 is-row-of-requires : tie.Need-is-row-of-requires Inv-loop μ-loop
 is-row-of-requires c κs = let S = c .before .before .before .before .before in
-    (S .pre .formed, S .pre .mark-some, c .loop-test .taken)
+    (S .pre .formed, S .pre .seated, c .loop-test .taken)
 
 returns : tie.Need-returns Inv-loop μ-loop
 returns c = let S = c .before .before .before .before .before .before .before in
-    related-by _ _ _ _ _ (S .pre) _ _ _ _ (c .before .before .loop-test .taken) (sym (c .before .is-row-of .ensures) ∙ c .if1 .taken)
+    related-by _ _ _ _ (S .pre) _ _ _ _ (c .before .before .loop-test .taken) (sym (c .before .is-row-of .ensures) ∙ c .if1 .taken)
 
 add-j : tie.Need-add-j Inv-loop μ-loop
 add-j c = omega arith
@@ -44,7 +44,7 @@ loop-again c = let L = c .before .before .before .loop in
 returns-2 : tie.Need-returns-2 Inv-loop μ-loop
 returns-2 c = let S = c .before .before .before .before .before in
     let L = c .before .loop in
-    related-none _ _ _ _ _ (S .pre) _ _ _ (λ i l. L .inv .1 i (omega arith))
+    related-none _ _ _ _ (S .pre) _ _ _ (λ i l. L .inv .1 i (omega arith))
 
 pub is-related-spec : {M : Type 1} → statement M
 is-related-spec =

@@ -22,8 +22,8 @@ node-at-requires-2 : tie.Need-node-at-requires-2
 node-at-requires-2 c κs = let S = c .before .before .before .before .before .before in
     end-room _ _ _ _ _ (S .pre .0) (S .pre .2) (c .before .before .before .edge-at .ensures) .1
 
-div-result : tie.Need-div-result
-div-result c = search needs
+counts-requires : tie.Need-counts-requires
+counts-requires c κs = search needs
 
 same-node-requires : tie.Need-same-node-requires
 same-node-requires c κs = search needs
@@ -32,8 +32,8 @@ same-node-requires-2 : tie.Need-same-node-requires-2
 same-node-requires-2 c κs = search needs
 
 returns : tie.Need-returns
-returns c = row-is _ _ _ _ _ _ _ _ _ _ _ _ (c .before .before .before .before .before .before .before .before .edge-at .ensures) (c .before .before .before .before .before .before .node-at .ensures)
-    (c .before .before .before .before .node-at2 .ensures) (c .before .same-node .ensures) (c .same-node2 .ensures)
+returns c = row-is _ _ _ _ _ _ _ _ _ _ _ _ _ (c .before .before .before .before .before .before .before .before .edge-at .ensures) (c .before .before .before .before .before .before .node-at .ensures)
+    (c .before .before .before .before .node-at2 .ensures) (c .before .before .before .counts .ensures) (c .before .same-node .ensures) (c .same-node2 .ensures)
 
 pub is-row-of-spec : {M : Type 1} → statement M
 is-row-of-spec =
@@ -44,7 +44,7 @@ is-row-of-spec =
     node-at-requires
     cast-node-at-2
     node-at-requires-2
-    div-result
+    counts-requires
     same-node-requires
     same-node-requires-2
     returns)

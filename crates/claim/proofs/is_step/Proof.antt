@@ -1,9 +1,8 @@
 -- `claim::is_step` meets its contract: a containment is the relation of kind 2, from the one category to the other for a grant and back for a ban.
 -- Assumes nothing.
-use Prim.Native.Nat.{suc}
 use borrow.Author.Needs.{needs}
 use Rattle.claim.proofs.Listing.{relation-named, step-grant, step-ban}
-use Rattle.sheet.specs.Named.{seenAt}
+use Rattle.sheet.specs.Seats.{seenFrom}
 use Rattle.claim.proofs.is_step.Statement.{statement}
 use Rattle.claim.proofs.is_step.Tie as tie
 
@@ -18,7 +17,7 @@ is-related-requires c κs = search needs
 
 returns : tie.Need-returns
 returns c = let S = c .before .before .before .before .before .before in
-    let g = seenAt (S .args .sheet .now) (suc (S .args .k)) in
+    let g = seenFrom (S .args .sheet .now) (S .args .seat) in
     step-grant g _ _ _ _ (c .before .if1 .taken)
     (relation-named g 2 (c .before .before .before .named .result) (c .before .before .named2 .result) _ _ _ (c .before .before .before .named .ensures) (c .before .before .named2 .ensures) (c .is-related .ensures))
 
@@ -27,7 +26,7 @@ is-related-requires-2 c κs = search needs
 
 returns-2 : tie.Need-returns-2
 returns-2 c = let S = c .before .before .before .before .before .before in
-    let g = seenAt (S .args .sheet .now) (suc (S .args .k)) in
+    let g = seenFrom (S .args .sheet .now) (S .args .seat) in
     step-ban g _ _ _ _ (c .before .if1 .left)
     (relation-named g 2 (c .before .before .named2 .result) (c .before .before .before .named .result) _ _ _ (c .before .before .named2 .ensures) (c .before .before .before .named .ensures) (c .is-related2 .ensures))
 

@@ -1,6 +1,6 @@
 -- `claim::is_way` meets its contract. The loop's invariant: the last n + 1 categories lead on.
 -- Assumes nothing.
-use Prim.Native.Nat.{suc, _+_, _-_, _*_, _≤_}
+use Prim.Native.Nat.{_+_, _-_, _*_, _≤_}
 use mathlib.Core.Bool.{true}
 use mathlib.Core.Path.{_≡_, sym, _∙_}
 use native.Mathlib.Omega.{arith}
@@ -10,16 +10,16 @@ use borrow.Author.Tests.{not-true, not-false}
 use Rattle.claim.proofs.Listing.{way-first, way-none, way-stops, way-next, way-done}
 use Rattle.question.specs.Asked.{sideOf}
 use Rattle.claim.specs.Listed.{wayFrom}
-use Rattle.sheet.specs.Named.{seenAt}
+use Rattle.sheet.specs.Seats.{seenFrom}
 use Rattle.claim.proofs.is_way.Statement.{statement}
 use Rattle.claim.proofs.is_way.Tie as tie
 
 abbrev Inv-loop : tie.InvT-loop
-Inv-loop sheet edges h k mark q list m v c n₀ n =
-    (n ≤ m) × (wayFrom (seenAt sheet (suc k)) (sideOf (q .kind)) (q .deed) (getD list (5 + 2 * m) 0) (q .folio) list (2 + 2 * (m - n)) n ≡ true)
+Inv-loop sheet edges h seat q list m v c n₀ n =
+    (n ≤ m) × (wayFrom (seenFrom sheet seat) (sideOf (q .kind)) (q .deed) (getD list (5 + 2 * m) 0) (q .folio) list (2 + 2 * (m - n)) n ≡ true)
 
 abbrev μ-loop : tie.MeasureT-loop
-μ-loop sheet edges h k mark q list m v c n₀ n = m - n
+μ-loop sheet edges h seat q list m v c n₀ n = m - n
 
 mul-v : tie.Need-mul-v Inv-loop μ-loop
 mul-v c = search needs

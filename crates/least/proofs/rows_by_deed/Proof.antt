@@ -16,7 +16,7 @@ slice-aggregate-run c = search needs
 run-requires : tie.Need-run-requires
 run-requires c κs = let S = c .before .before .before .before .before .pre in
     let D = c .before .deed-starts .ensures in
-    (record { formed = S .0; mark = S .1; room = omega (arith, D .long, S .0 .nodes .header) }, S .2, D .low, omega (arith, D .long))
+    (record { formed = S .0; seated = S .1; room = omega (arith, D .long, S .0 .nodes .header) }, S .2, D .low, omega (arith, D .long))
 
 returns : tie.Need-returns
 returns c = let L = c .before .run in

@@ -16,7 +16,7 @@ unknown-line-requires-2 c κs = search needs
 
 returns : tie.Need-returns
 unfolding badPair
-returns c = rw (c .before .before .before .before .pre .4, ← c .before .before .same-deed .ensures, ← c .before .unknown-line .ensures) (c .unknown-line2 .ensures)
+returns c = rw (c .before .unknown-line .ensures, c .before .before .same-deed .ensures, c .before .before .before .before .pre .3) at (c .unknown-line2 .ensures)
 
 pub bad-pair-spec : {M : Type 1} → statement M
 bad-pair-spec =

@@ -15,7 +15,7 @@ returns : tie.Need-returns
 unfolding _when_otherwise_
 returns c =
     let S = c .before .before .before in
-    c .unknown-category .ensures ∙ sym (fault-after _ _ _ _ (S .pre .1) (S .pre .5) ∙ rw (eq-eqb _ _ (c .before .if1 .taken)) refl)
+    c .unknown-category .ensures ∙ sym (fault-after _ _ _ _ (S .pre .1) (S .pre .4) ∙ rw (eq-eqb _ _ (c .before .if1 .taken)) refl)
 
 unknown-right-requires : tie.Need-unknown-right-requires
 unknown-right-requires c κs = search needs
@@ -24,7 +24,7 @@ returns-2 : tie.Need-returns-2
 unfolding _when_otherwise_
 returns-2 c =
     let S = c .before .before .before .before in
-    c .unknown-right .ensures ∙ sym (fault-after _ _ _ _ (S .pre .1) (S .pre .5) ∙ rw (ne-eqb _ _ (c .before .before .if1 .left), eq-eqb _ _ (c .before .if2 .taken)) refl)
+    c .unknown-right .ensures ∙ sym (fault-after _ _ _ _ (S .pre .1) (S .pre .4) ∙ rw (ne-eqb _ _ (c .before .before .if1 .left), eq-eqb _ _ (c .before .if2 .taken)) refl)
 
 bad-pair-requires : tie.Need-bad-pair-requires
 bad-pair-requires c κs = search needs
@@ -33,13 +33,13 @@ returns-3 : tie.Need-returns-3
 unfolding _when_otherwise_
 returns-3 c =
     let S = c .before .before .before .before .before in
-    c .bad-pair .ensures ∙ sym (fault-after _ _ _ _ (S .pre .1) (S .pre .5) ∙ rw (ne-eqb _ _ (c .before .before .before .if1 .left), ne-eqb _ _ (c .before .before .if2 .left), eq-eqb _ _ (c .before .if3 .taken)) refl)
+    c .bad-pair .ensures ∙ sym (fault-after _ _ _ _ (S .pre .1) (S .pre .4) ∙ rw (ne-eqb _ _ (c .before .before .before .if1 .left), ne-eqb _ _ (c .before .before .if2 .left), eq-eqb _ _ (c .before .if3 .taken)) refl)
 
 returns-4 : tie.Need-returns-4
 unfolding _when_otherwise_
 returns-4 c =
     let S = c .before .before .before .before in
-    sym (fault-after _ _ _ _ (S .pre .1) (S .pre .5) ∙ rw (ne-eqb _ _ (c .before .before .if1 .left), ne-eqb _ _ (c .before .if2 .left), ne-eqb _ _ (c .if3 .left)) refl)
+    sym (fault-after _ _ _ _ (S .pre .1) (S .pre .4) ∙ rw (ne-eqb _ _ (c .before .before .if1 .left), ne-eqb _ _ (c .before .if2 .left), ne-eqb _ _ (c .if3 .left)) refl)
 
 pub fault-at-spec : {M : Type 1} → statement M
 fault-at-spec =

@@ -9,7 +9,7 @@ walk-of-requires : tie.Need-walk-of-requires
 walk-of-requires c κs = search needs
 
 persons-lead-requires : tie.Need-persons-lead-requires
-persons-lead-requires c κs = let S = c .before .before .before .before .pre .0 in (S .formed, rw (c .walk-of .ensures) (S .mark-some))
+persons-lead-requires c κs = let S = c .before .before .before .before .pre .0 in (S .formed, rw (c .walk-of .ensures) (S .seated))
 
 numbers-of-requires : tie.Need-numbers-of-requires
 numbers-of-requires c κs = search needs
@@ -20,7 +20,7 @@ same-length c = search needs
 returns : tie.Need-returns
 returns c =
     let S = c .before .before .before .before .before .before .before .before .before in
-    unreached-found _ _ _ _ _ (S .pre .0) _ (c .before .before .before .before .before .walk-of .ensures) _ (c .before .before .before .before .persons-lead .ensures) (c .before .before .numbers-of .ensures)
+    unreached-found _ _ _ _ (S .pre .0) _ (rw (c .before .before .before .before .before .walk-of .ensures) at (c .before .before .before .before .persons-lead .ensures)) (c .before .before .numbers-of .ensures)
 
 pub folios-unreached-spec : {M : Type 1} → statement M
 folios-unreached-spec =

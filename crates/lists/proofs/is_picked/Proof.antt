@@ -8,11 +8,11 @@ use Rattle.lists.proofs.is_picked.Tie as tie
 is-wanted-requires : tie.Need-is-wanted-requires
 is-wanted-requires c κs = search needs
 
-div-result : tie.Need-div-result
-div-result c = search needs
+bears-requires : tie.Need-bears-requires
+bears-requires c κs = search needs
 
 returns : tie.Need-returns
-returns c = rw (c .before .before .is-wanted .ensures) refl
+returns c = rw (c .before .before .is-wanted .ensures, c .before .bears .ensures) refl
 
 pub is-picked-spec : {M : Type 1} → statement M
-is-picked-spec = tie.close (tie.spec is-wanted-requires div-result returns)
+is-picked-spec = tie.close (tie.spec is-wanted-requires bears-requires returns)

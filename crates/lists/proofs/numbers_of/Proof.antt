@@ -11,15 +11,15 @@ use borrow.Author.Needs.{needs}
 use lib.ListN.{length, take}
 use native.Mathlib.Omega.{arith}
 use mathlib.Core.Path.{_≡_, refl, ap, _∙_}
-use Prim.Native.Nat.{suc, _-_, _≤_}
+use Prim.Native.Nat.{_-_, _≤_}
 use Rattle.lists.proofs.numbers_of.Statement.{statement}
 use Rattle.lists.proofs.numbers_of.Tie as tie
 
 abbrev Inv-loop : tie.InvT-loop
-Inv-loop sheet k mark class reached list₀ d rows n₀ i₀ list n i = (i ≤ rows) × (n ≤ i) × (length list ≡ length list₀) × Collected (Picked sheet (suc k) class reached d) (λ j. nodeAt sheet j .number) i (take n list)
+Inv-loop sheet seat class reached list₀ d rows n₀ i₀ list n i = (i ≤ rows) × (n ≤ i) × (length list ≡ length list₀) × Collected (Picked sheet (seat .office) class reached d) (λ j. nodeAt sheet j .number) i (take n list)
 
 abbrev μ-loop : tie.MeasureT-loop
-μ-loop sheet k mark class reached list₀ d rows n₀ i₀ list n i = rows - i
+μ-loop sheet seat class reached list₀ d rows n₀ i₀ list n i = rows - i
 
 loop-holds : tie.Need-loop-holds Inv-loop μ-loop
 loop-holds c = (search needs, search needs, refl, collected-none _ _)
@@ -59,8 +59,8 @@ loop-again c =
       omega arith,
       omega (arith, more .1, L .inv .1),
       puts-long _ _ _ _ _ _ P ∙ L .inv .2,
-      collected-puts _ _ (L .i) _ _ _ _ _ _ (omega arith) (ap (λ (x : Node). x .number) E) P (L .inv .3) (picked-yes _ _ _ _ _ _ _ _ _ (S .pre .1) E T) (picked-no _ _ _ _ _ _ _ _ _ (S .pre .1) E T)
-          (λ i l p q. numbers-rise _ _ (S .pre .0) _ i (L .i) (S .pre .3) l (omega arith) (p .is-class) (q .is-class)),
+      collected-puts _ _ (L .i) _ _ _ _ _ _ (omega arith) (ap (λ (x : Node). x .number) E) P (L .inv .3) (picked-yes _ _ _ _ _ _ _ _ E T) (picked-no _ _ _ _ _ _ _ _ E T)
+          (λ i l p q. numbers-rise _ _ (S .pre .0) _ i (L .i) (S .pre .2) l (omega arith) (p .is-class) (q .is-class)),
     )
 
 same-length : tie.Need-same-length Inv-loop μ-loop
@@ -70,7 +70,7 @@ returns : tie.Need-returns Inv-loop μ-loop
 returns c =
     let L = c .before .loop in
     let S = c .before .before .before .before in
-    let m : L .n ≤ length (L .list) = omega (arith, L .inv .1, L .inv .2, S .pre .5, S .pre .0 .header .nodes) in
+    let m : L .n ≤ length (L .list) = omega (arith, L .inv .1, L .inv .2, S .pre .4, S .pre .0 .header .nodes) in
     some m (picked-all _ _ _ _ _ _ _ _ (L .inv .0) (c .loop-test .left) (L .inv .3))
 
 pub numbers-of-spec : {M : Type 1} → statement M

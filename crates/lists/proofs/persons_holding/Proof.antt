@@ -1,7 +1,6 @@
 -- `lists::persons_holding` meets its contract: the folio has a row, and those whose walk for the deed leads to it have a grant path.
 -- Assumes nothing.
 use Rattle.lists.proofs.Persons.{found-in, found-key, holders-found, known-some}
-use mathlib.Core.Path.{refl}
 use native.Mathlib.Omega.{arith}
 use borrow.Author.Needs.{needs}
 use Rattle.lists.proofs.persons_holding.Statement.{statement}
@@ -22,7 +21,7 @@ returns : tie.Need-returns
 returns c =
     let S = c .before .before .before .before .before .before .before .before in
     let E = c .before .before .before .before .seek .ensures in
-    holders-found _ _ _ _ _ (S .pre .0) _ _ _ refl (found-in _ _ _ (S .pre .0 .formed) _ _ _ _ (S .pre .2) E) _ (found-key _ _ _ (S .pre .0 .formed) _ _ _ _ (S .pre .2) E (λ z. omega arith)) (known-some _ _ _ (S .pre .0 .formed) _ _ _ (S .pre .1)) (c .before .before .persons-to .ensures)
+    holders-found _ _ _ _ (S .pre .0) _ _ (found-in _ _ _ (S .pre .0 .formed) _ _ _ _ (S .pre .2) E) _ (found-key _ _ _ (S .pre .0 .formed) _ _ _ _ (S .pre .2) E (λ z. omega arith)) (known-some _ _ _ (S .pre .0 .formed) _ _ _ (S .pre .1)) (c .before .before .persons-to .ensures)
 
 pub persons-holding-spec : {M : Type 1} → statement M
 persons-holding-spec = tie.close (tie.spec seek-requires persons-to-requires same-length returns)

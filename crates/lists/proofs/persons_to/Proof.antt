@@ -9,13 +9,13 @@ walk-of-requires : tie.Need-walk-of-requires
 walk-of-requires c κs = search needs
 
 arranged-requires : tie.Need-arranged-requires
-arranged-requires c κs = let S = c .before .before .before .before .pre .0 in (S .formed, rw (c .walk-of .ensures) (S .mark-some))
+arranged-requires c κs = let S = c .before .before .before .before .pre .0 in (S .formed, rw (c .walk-of .ensures) (S .seated))
 
 slice-aggregate-persons-reaching : tie.Need-slice-aggregate-persons-reaching
 slice-aggregate-persons-reaching c = search needs
 
 persons-reaching-requires : tie.Need-persons-reaching-requires
-persons-reaching-requires c κs = let S = c .before .before .before .before .before .before .pre in (S .0 .formed, rw (c .before .before .walk-of .ensures) (S .0 .mark-some), c .before .arranged .ensures, S .1)
+persons-reaching-requires c κs = let S = c .before .before .before .before .before .before .pre in (S .0 .formed, rw (c .before .before .walk-of .ensures) (S .0 .seated), c .before .arranged .ensures, S .1)
 
 numbers-of-requires : tie.Need-numbers-of-requires
 numbers-of-requires c κs = search needs

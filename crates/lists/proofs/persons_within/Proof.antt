@@ -1,7 +1,6 @@
 -- `lists::persons_within` meets its contract: the category has a row, and those whose walk leads to it are in the category.
 -- Assumes nothing.
 use Rattle.lists.proofs.Persons.{found-in, found-key, persons-found}
-use mathlib.Core.Path.{refl}
 use native.Mathlib.Omega.{arith}
 use borrow.Author.Needs.{needs}
 use Rattle.lists.proofs.persons_within.Statement.{statement}
@@ -22,7 +21,7 @@ returns : tie.Need-returns
 returns c =
     let S = c .before .before .before .before .before .before .before .before in
     let E = c .before .before .before .before .seek .ensures in
-    persons-found _ _ _ _ _ (S .pre .0) _ _ _ refl (found-in _ _ _ (S .pre .0 .formed) _ _ _ _ (S .pre .1) E) _ (found-key _ _ _ (S .pre .0 .formed) _ _ _ _ (S .pre .1) E (λ z. omega arith)) (c .before .before .persons-to .ensures)
+    persons-found _ _ _ _ (S .pre .0) _ _ (found-in _ _ _ (S .pre .0 .formed) _ _ _ _ (S .pre .1) E) _ (found-key _ _ _ (S .pre .0 .formed) _ _ _ _ (S .pre .1) E (λ z. omega arith)) (c .before .before .persons-to .ensures)
 
 pub persons-within-spec : {M : Type 1} → statement M
 persons-within-spec = tie.close (tie.spec seek-requires persons-to-requires same-length returns)

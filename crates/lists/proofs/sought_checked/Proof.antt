@@ -17,22 +17,15 @@ refused-by-requires c κs = search needs
 returns : tie.Need-returns
 returns c = show-refused _ _ _ _ _ _ (fault-office _ _ _ _ _ (c .before .before .before .before .before .before .pre .head) (c .before .before .bad-office .ensures) (c .before .if1 .taken)) (c .before .if1 .taken) (c .refused-by .ensures) refl
 
-sub-k : tie.Need-sub-k
-sub-k c =
-    let o = fits-office _ _ (sym (c .before .before .bad-office .ensures) ∙ c .before .if1 .left) in
-    omega (arith, o .0)
-
-mark-of-requires : tie.Need-mark-of-requires
-mark-of-requires c κs =
-    let o = fits-office _ _ (sym (c .before .before .bad-office .ensures) ∙ c .before .if1 .left) in
-    omega (arith, o .0, o .1, c .before .before .before .before .before .before .pre .nodes .header .offices-high)
+seat-at-requires : tie.Need-seat-at-requires
+seat-at-requires c κs =
+    let o = fits-office _ _ (sym (c .before .bad-office .ensures) ∙ c .if1 .left) in
+    (o .0, omega (arith, o .1, c .before .before .before .before .before .pre .nodes .header .offices-high))
 
 fault-at-requires : tie.Need-fault-at-requires
 fault-at-requires c κs =
-    let z = sym (c .before .before .before .bad-office .ensures) ∙ c .before .before .if1 .left in
-    let o = fits-office _ _ z in
-    let S = c .before .before .before .before .before .before .before in
-    (S .pre .nodes, S .pre .head, c .mark-of .ensures .0, c .mark-of .ensures .1, omega (arith, o .0), z)
+    let S = c .before .before .before .before .before .before .pre in
+    (S .nodes, S .head, c .seat-at .ensures .1, c .seat-at .ensures .0, sym (c .before .before .bad-office .ensures) ∙ c .before .if1 .left)
 
 refused-by-requires-2 : tie.Need-refused-by-requires-2
 refused-by-requires-2 c κs = search needs
@@ -42,10 +35,8 @@ returns-2 c = show-refused _ _ _ _ _ _ (c .before .before .fault-at .ensures) (c
 
 sought-at-requires : tie.Need-sought-at-requires
 sought-at-requires c κs =
-    let z = sym (c .before .before .before .before .before .before .bad-office .ensures) ∙ c .before .before .before .before .before .if1 .left in
-    let o = fits-office _ _ z in
-    let S = c .before .before .before .before .before .before .before .before .before .before in
-    (record { formed = S .pre; mark-is = c .before .before .before .mark-of .ensures .0; mark-some = c .before .before .before .mark-of .ensures .1 }, omega (arith, o .0), sym (c .before .before .fault-at .ensures) ∙ c .before .if2 .left)
+    let E = c .before .before .before .seat-at .ensures in
+    (record { formed = c .before .before .before .before .before .before .before .before .before .pre; seated = E .1 }, E .0, sym (c .before .before .fault-at .ensures) ∙ c .before .if2 .left)
 
 same-length : tie.Need-same-length
 same-length c = search needs
@@ -60,8 +51,7 @@ sought-checked-spec =
     bad-office-requires
     refused-by-requires
     returns
-    sub-k
-    mark-of-requires
+    seat-at-requires
     fault-at-requires
     refused-by-requires-2
     returns-2

@@ -10,7 +10,7 @@ unknown-line-requires c κs = search needs
 
 returns : tie.Need-returns
 unfolding unknownCategory
-returns c = rw (c .before .before .pre .4) (c .unknown-line .ensures)
+returns c = rw (c .before .before .pre .3) at (c .unknown-line .ensures)
 
 pub unknown-category-spec : {M : Type 1} → statement M
 unknown-category-spec = tie.close (tie.spec unknown-line-requires returns)

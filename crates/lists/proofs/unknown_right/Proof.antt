@@ -13,7 +13,7 @@ unknown-line-requires-2 c κs = search needs
 
 returns : tie.Need-returns
 unfolding unknownRight
-returns c = rw (c .before .before .before .pre .4, ← c .before .unknown-line .ensures) (c .unknown-line2 .ensures)
+returns c = rw (c .before .unknown-line .ensures, c .before .before .before .pre .3) at (c .unknown-line2 .ensures)
 
 pub unknown-right-spec : {M : Type 1} → statement M
 unknown-right-spec = tie.close (tie.spec unknown-line-requires unknown-line-requires-2 returns)
