@@ -91,11 +91,22 @@ end-room s t h j e w l q =
     let n = w .nodes .header .whole in
     (omega arith, omega arith)
 
-pub row-is : (s t : List ℕ) (seat : Seat) (kind : ℕ) (a b : Node) (j : ℕ) (e : Edge) (x y : Node) (c u v : Bool) → e ≡ edgeAt t j → x ≡ nodeAt s (e .from) → y ≡ nodeAt s (e .to)
-    → c ≡ countsAt seat e → u ≡ sameKey (nodeKey x) (nodeKey a) → v ≡ sameKey (nodeKey y) (nodeKey b)
-    → (eqb (e .kind) kind && (c && (u && v))) ≡ rowOf s t seat kind a b j
-unfolding rowOf
-row-is s t seat kind a b j e x y c u v q f g p m n = rw (p, m, n, f, g, q) refl
+module _ (s t : List ℕ) (seat : Seat) (kind : ℕ) (a b : Node) (j : ℕ) (e : Edge) (q : e ≡ edgeAt t j) (x : Node) (f : x ≡ nodeAt s (e .from)) where
+  -- from the wanted identity or from another
+  row-from : (u : Bool) → sameKey (nodeKey x) (nodeKey a) ≡ u → rowOf s t seat kind a b j ≡ (eqb (e .kind) kind && (countsAt seat e && (u && sameKey (nodeKeyAt s (e .to)) (nodeKey b))))
+  unfolding rowOf
+  row-from u m = rw (← q, ← f, m) refl
+
+  pub row-elsewhere : sameKey (nodeKey x) (nodeKey a) ≡ false → false ≡ rowOf s t seat kind a b j
+  row-elsewhere m = sym (row-from false m ∙ none (eqb (e .kind) kind) (countsAt seat e))
+    where
+      none : (u v : Bool) → (u && (v && false)) ≡ false
+      none true true = refl
+      none true false = refl
+      none false v = refl
+
+  pub row-is : sameKey (nodeKey x) (nodeKey a) ≡ true → (y : Node) → y ≡ nodeAt s (e .to) → (c v : Bool) → c ≡ countsAt seat e → v ≡ sameKey (nodeKey y) (nodeKey b) → (eqb (e .kind) kind && (c && v)) ≡ rowOf s t seat kind a b j
+  row-is m y g c v p n = sym (row-from true m ∙ rw (p, n, g) refl)
 
 -- ---- relations between named identities
 

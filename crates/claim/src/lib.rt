@@ -19,7 +19,7 @@ ghost use Rattle.question.specs.Checked.{AtSeat};
 ghost use Rattle.claim.specs.Listed.{rowOf, hasSecond, framed, wayFrom, goesOn};
 ghost use Rattle.claim.specs.Promises.{TellsPath};
 
-// Whether an edge row has the kind, counts for the seat, and runs from one identity to the other.
+// Whether an edge row has the kind, counts for the seat, and runs from one identity to the other. Few rows leave an identity, so that end is looked at first.
 fn is_row_of(
     sheet: &[u32],
     edges: &[u32],
@@ -35,9 +35,12 @@ fn is_row_of(
 {
     let e = sheet::edge_at(edges, h, j);
     let from = sheet::node_at(sheet, e.from as usize);
+    if !sheet::same_node(from, a) {
+        return false;
+    }
     let to = sheet::node_at(sheet, e.to as usize);
     let counts = sheet::counts(seat, e);
-    (e.kind == kind) & (counts & (sheet::same_node(from, a) & sheet::same_node(to, b)))
+    (e.kind == kind) & (counts & sheet::same_node(to, b))
 }
 
 // Whether a relation of a kind between two identities is seen from the seat.

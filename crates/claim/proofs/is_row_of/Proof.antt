@@ -1,7 +1,9 @@
--- `claim::is_row_of` meets its contract: kind, mark and both ends are compared as the definition does.
+-- `claim::is_row_of` meets its contract: a row from another identity is none, and of the others kind, seat and to end are compared as the definition does.
 -- Assumes nothing.
+use mathlib.Core.Path.{sym, _∙_}
 use borrow.Author.Needs.{needs}
-use Rattle.claim.proofs.Listing.{end-room, row-is}
+use borrow.Author.Tests.{not-true, not-false}
+use Rattle.claim.proofs.Listing.{end-room, row-elsewhere, row-is}
 use Rattle.claim.proofs.is_row_of.Statement.{statement}
 use Rattle.claim.proofs.is_row_of.Tie as tie
 
@@ -12,28 +14,31 @@ cast-node-at : tie.Need-cast-node-at
 cast-node-at c = search needs
 
 node-at-requires : tie.Need-node-at-requires
-node-at-requires c κs = let S = c .before .before .before .before in
-    end-room _ _ _ _ _ (S .pre .0) (S .pre .2) (c .before .edge-at .ensures) .0
+node-at-requires c κs = let S = c .before .before .before .before .pre in
+    end-room _ _ _ _ _ (S .0) (S .2) (c .before .edge-at .ensures) .0
+
+same-node-requires : tie.Need-same-node-requires
+same-node-requires c κs = search needs
+
+returns : tie.Need-returns
+returns c = row-elsewhere _ _ _ _ _ _ _ _ (c .before .before .before .before .edge-at .ensures) _ (c .before .before .node-at .ensures) (sym (c .before .same-node .ensures) ∙ not-true _ (c .if1 .taken))
 
 cast-node-at-2 : tie.Need-cast-node-at-2
 cast-node-at-2 c = search needs
 
 node-at-requires-2 : tie.Need-node-at-requires-2
-node-at-requires-2 c κs = let S = c .before .before .before .before .before .before in
-    end-room _ _ _ _ _ (S .pre .0) (S .pre .2) (c .before .before .before .edge-at .ensures) .1
+node-at-requires-2 c κs = let S = c .before .before .before .before .before .before .before .before .pre in
+    end-room _ _ _ _ _ (S .0) (S .2) (c .before .before .before .before .before .edge-at .ensures) .1
 
 counts-requires : tie.Need-counts-requires
 counts-requires c κs = search needs
 
-same-node-requires : tie.Need-same-node-requires
-same-node-requires c κs = search needs
-
 same-node-requires-2 : tie.Need-same-node-requires-2
 same-node-requires-2 c κs = search needs
 
-returns : tie.Need-returns
-returns c = row-is _ _ _ _ _ _ _ _ _ _ _ _ _ (c .before .before .before .before .before .before .before .before .edge-at .ensures) (c .before .before .before .before .before .before .node-at .ensures)
-    (c .before .before .before .before .node-at2 .ensures) (c .before .before .before .counts .ensures) (c .before .same-node .ensures) (c .same-node2 .ensures)
+returns-2 : tie.Need-returns-2
+returns-2 c = row-is _ _ _ _ _ _ _ _ (c .before .before .before .before .before .before .before .before .before .edge-at .ensures) _ (c .before .before .before .before .before .before .before .node-at .ensures) (sym (c .before .before .before .before .before .before .same-node .ensures) ∙ not-false _ (c .before .before .before .before .before .if1 .left))
+    _ (c .before .before .before .node-at2 .ensures) _ _ (c .before .before .counts .ensures) (c .same-node2 .ensures)
 
 pub is-row-of-spec : {M : Type 1} → statement M
 is-row-of-spec =
@@ -42,9 +47,10 @@ is-row-of-spec =
     edge-at-requires
     cast-node-at
     node-at-requires
+    same-node-requires
+    returns
     cast-node-at-2
     node-at-requires-2
     counts-requires
-    same-node-requires
     same-node-requires-2
-    returns)
+    returns-2)
