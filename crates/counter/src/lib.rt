@@ -16,7 +16,7 @@ ghost use Rattle.question.specs.Replies.{Shows};
 ghost use Rattle.lookup.specs.Looked.{lookFault, PlacesIdentity};
 ghost use Rattle.join.specs.Joined.{Joining};
 ghost use Rattle.takeout.specs.Promises.{TakesOut};
-ghost use Rattle.joining.specs.JoinedFiles.{JoinsFiles};
+ghost use Rattle.join_files.specs.JoinedFiles.{JoinsFiles};
 ghost use Rattle.ask.specs.Promises.{AnswersAtOffice, AnswersJointly, WitnessOf, Witnesses};
 ghost use Rattle.claim.specs.Promises.{TellsPath};
 ghost use Rattle.lists.specs.Promises.{ListsPersons, ListsHolders, ListsUnreached, ShowsLeastBoth, ShowsLeastPair, ListsRedundant};
@@ -424,7 +424,7 @@ pub extern "C" fn tormukai_join(first: &[u32], second: &[u32], out: &mut [u32]) 
 pub extern "C" fn tormukai_join_files(first: &[u8], second: &[u8], out: &mut [u8]) -> Joined
     ensures { λ r. ⌜ JoinsFiles (now (first .entry)) (now (second .entry)) (now (out .entry)) r (now (out .exit)) ⌝ }
 {
-    joining::join_files(first, second, out)
+    join_files::join_files(first, second, out)
 }
 
 // Takes one office's sheet out of a sheet; how many words in `count`.

@@ -18,7 +18,7 @@ use Rattle.tables.specs.Key.{Key}
 use Rattle.lookup.specs.Looked.{neither, lookFault, StandsIn, PlacesIdentity}
 use Rattle.join.specs.declared.Joined.{Joined}
 use Rattle.join.specs.Joined.{tooMuch, unionNodes, unionEdges, sheetsFault, unionFault, joinFault, JoinsAs, Joining, joined, refused as not-joined}
-use Rattle.joining.specs.JoinedFiles.{filesFault, JoinsFiles}
+use Rattle.join_files.specs.JoinedFiles.{filesFault, JoinsFiles}
 use Rattle.demands.specs.Demands.{saidIn, saidOf, Judged, by-the-table, no-such, too-short, not-refused, Keeps}
 
 -- what refuses by 0 is no refusal

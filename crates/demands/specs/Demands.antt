@@ -39,7 +39,7 @@ use Rattle.counter.specs.Filed.{afterFile, InBytes}
 use Rattle.lookup.specs.Looked.{lookFault, LooksUp, PlacesIdentity}
 use Rattle.join.specs.declared.Joined.{Joined}
 use Rattle.join.specs.Joined.{sharedNodes, sharedEdges, unionNodes, unionEdges, joinFault, Joining}
-use Rattle.joining.specs.JoinedFiles.{filesFault, JoinsFiles}
+use Rattle.join_files.specs.JoinedFiles.{filesFault, JoinsFiles}
 use Rattle.takeout.specs.Promises.{TakesOut}
 
 -- ==== Demand 1: a bad sheet or question gets the first number that applies in the table, under no other condition, and all lent memory stays untouched

@@ -41,8 +41,8 @@ fn store(bytes: &[u8]) -> bool {
 }
 
 fn tell(j: Joined) {
-    let mut text = [0u8; joining::LONGEST];
-    let n = joining::report(j, &mut text);
+    let mut text = [0u8; join_files::LONGEST];
+    let n = join_files::report(j, &mut text);
     if !io::write_all(STDOUT_FILENO, &text[0..n]) {
         os::fail(b"standard output");
     }
@@ -51,7 +51,7 @@ fn tell(j: Joined) {
 // Nothing is said of a join before its file is there.
 fn run(first: &[u8], second: &[u8]) {
     let mut out = [0u8; MAX_BYTES];
-    let j = joining::join_files(first, second, &mut out);
+    let j = join_files::join_files(first, second, &mut out);
     if j.number == 0 {
         let n = 4 * (j.words as usize);
         if !store(&out[0..n]) {

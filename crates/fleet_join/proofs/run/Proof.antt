@@ -1,7 +1,7 @@
 -- `fleet_join::run` is safe: what is stored is a part of the output.
 -- Assumes nothing.
 use borrow.Author.Needs.{needs}
-use Rattle.joining.proofs.Joining.{joint-part}
+use Rattle.join_files.proofs.Joining.{joint-part}
 use Rattle.fleet_join.proofs.run.Statement.{statement}
 use Rattle.fleet_join.proofs.run.Tie as tie
 

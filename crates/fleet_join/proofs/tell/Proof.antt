@@ -1,7 +1,7 @@
 -- `fleet_join::tell` is safe: what is written is a part of the text.
 -- Assumes nothing.
 use borrow.Author.Needs.{needs}
-use Rattle.joining.proofs.Putting.{report-part}
+use Rattle.join_files.proofs.Reporting.{report-part}
 use Rattle.fleet_join.proofs.tell.Statement.{statement}
 use Rattle.fleet_join.proofs.tell.Tie as tie
 

@@ -1,0 +1,4 @@
+pub mod Joining
+pub mod Reporting
+pub mod Single
+pub mod Ships
