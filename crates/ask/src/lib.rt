@@ -1,7 +1,12 @@
 // Questions 1 to 3: the answer at an office, the joint answer, and the witness.
 use question::Answer;
+use question::OF_BANS;
+use question::OF_GRANTS;
 use question::Question;
+use sheet::DEED;
+use sheet::FOLIO;
 use sheet::Header;
+use sheet::PERSON;
 use sheet::Seat;
 use walk::Walk;
 ghost use mathlib.Core.Path.{_≡_};
@@ -27,6 +32,21 @@ ghost use Rattle.ask.specs.Placed.{Placed, FoundAll, unfound, StandsSo};
 ghost use Rattle.ask.specs.Promises.{AnswersAtOffice, AnswersJointly, Witnesses};
 ghost use Rattle.ask.specs.Passing.{passing, telling};
 ghost use Rattle.ask.specs.Written.{nodeWords, RowsIn, Measured, PathRows};
+
+// The answers at an office, and the joint rules. meaning's specs/Answers.antt has the same numbers for the proofs.
+const UNDETERMINED: u32 = 0;
+
+const GRANTED: u32 = 1;
+
+const BANNED: u32 = 2;
+
+const BOTH: u32 = 3;
+
+const GRANT_FIRST: u32 = 1;
+
+const DENY_FIRST: u32 = 2;
+
+const FIRST_APPLICABLE: u32 = 3;
 
 // The node rows of a question's person, deed and folio; the node count where there is none.
 pub struct Places {
@@ -54,9 +74,9 @@ fn places_of(sheet: &[u32], h: Header, any: bool, seat: Seat, q: Question) -> Pl
     requires { ⌜ NodesFormed (now sheet) h × Seated seat ⌝ }
     ensures { λ r. ⌜ FoundAll (now (sheet .entry)) any (seat .office) (h .nodes) q r ⌝ }
 {
-    let person = question::seek(sheet, h, any, seat, 1, q.person);
-    let deed = question::seek(sheet, h, any, seat, 3, q.deed);
-    let folio = question::seek(sheet, h, any, seat, 4, q.folio);
+    let person = question::seek(sheet, h, any, seat, PERSON, q.person);
+    let deed = question::seek(sheet, h, any, seat, DEED, q.deed);
+    let folio = question::seek(sheet, h, any, seat, FOLIO, q.folio);
     Places {
         person: person,
         deed: deed,
@@ -115,8 +135,8 @@ fn answer_at(
     requires { ⌜ AtSeat (now sheet) (now edges) h seat × Placed (now sheet) q rp rf ⌝ }
     ensures { λ r. ⌜ AnswerIs (seenFrom (now (sheet .entry)) seat) (q .person) (q .deed) (q .folio) r ⌝ }
 {
-    let grants = has_path(sheet, edges, h, seat, 0, q, rp, rf);
-    let bans = has_path(sheet, edges, h, seat, 1, q, rp, rf);
+    let grants = has_path(sheet, edges, h, seat, OF_GRANTS, q, rp, rf);
+    let bans = has_path(sheet, edges, h, seat, OF_BANS, q, rp, rf);
     answer_number(grants, bans)
 }
 
@@ -126,14 +146,14 @@ fn answer_number(grants: bool, bans: bool) -> u32
 {
     if grants {
         if bans {
-            return 3;
+            return BOTH;
         }
-        return 1;
+        return GRANTED;
     }
     if bans {
-        return 2;
+        return BANNED;
     }
-    0
+    UNDETERMINED
 }
 
 // 21, 22 or 23 where the person, the deed or the folio has no row.
@@ -229,14 +249,14 @@ fn answers_of(sheet: &[u32], edges: &[u32], h: Header, q: Question) -> [u32; OFF
     rs
 }
 
-// Whether an answer has what is wanted: 0 any but Undetermined, 1 Granted or Both, 2 Banned or Both.
+// Whether an answer has what is wanted: 0 any but Undetermined, else Granted or Both, Banned or Both.
 fn passes(want: u32, r: u32) -> bool
     ensures { λ b. ⌜ b ≡ passing want r ⌝ }
 {
     if want == 0 {
-        return 0 < r;
+        return UNDETERMINED < r;
     }
-    (r == want) | (r == 3)
+    (r == want) | (r == BOTH)
 }
 
 // The lowest of n offices, counted from 0, whose answer has what is wanted; n where none has.
@@ -268,7 +288,7 @@ fn side_first(rs: [u32; OFFICES], n: u32, one: u32, two: u32) -> Answer
     if second < n {
         return question::told(two, second + 1);
     }
-    question::told(0, 0)
+    question::told(UNDETERMINED, 0)
 }
 
 // The answer of the lowest office that is not undetermined.
@@ -281,19 +301,19 @@ fn first_applicable(rs: [u32; OFFICES], n: u32) -> Answer
         let at = first as usize;
         return question::told(rs[at], first + 1);
     }
-    question::told(0, 0)
+    question::told(UNDETERMINED, 0)
 }
 
-// The joint answer of n offices under a rule: 1 grant-first, 2 deny-first, any other first-applicable.
+// The joint answer of n offices under a rule; any number but the first two rules' is first-applicable.
 fn joint_of(rs: [u32; OFFICES], n: u32, rule: u32) -> Answer
     requires { ⌜ (length rs ≡ maxOffices) × (n ≤ maxOffices) ⌝ }
     ensures { λ a. ⌜ a ≡ telling (jointly rule (take n rs)) ⌝ }
 {
-    if rule == 1 {
-        return side_first(rs, n, 1, 2);
+    if rule == GRANT_FIRST {
+        return side_first(rs, n, GRANTED, BANNED);
     }
-    if rule == 2 {
-        return side_first(rs, n, 2, 1);
+    if rule == DENY_FIRST {
+        return side_first(rs, n, BANNED, GRANTED);
     }
     first_applicable(rs, n)
 }
@@ -303,7 +323,7 @@ fn joint_checked(sheet: &[u32], edges: &[u32], h: Header, q: Question) -> Answer
     requires { ⌜ WellFormed (now sheet) (now edges) h ⌝ }
     ensures { λ a. ⌜ Replies (plain (jointFault (now (sheet .entry)) q)) (λ value count. JointIs (seenAt (now (sheet .entry))) (headerOf (now (sheet .entry)) .offices) (q .rule) (q .person) (q .deed) (q .folio) (record { answer = value; office = count })) a ⌝ }
 {
-    if (q.rule < 1) | (3 < q.rule) {
+    if (q.rule < GRANT_FIRST) | (FIRST_APPLICABLE < q.rule) {
         return question::refused_by(27);
     }
     let p = places_of(sheet, h, true, question::seat_at(1), q);

@@ -1,8 +1,16 @@
 // Question 4: whether a list of words, claimed to be a grant or ban path, is one.
 use question::Answer;
+use question::OF_GRANTS;
 use question::Question;
+use sheet::APPLIES;
+use sheet::CATEGORY;
+use sheet::CONTAINED;
+use sheet::DEED;
+use sheet::FOLIO;
 use sheet::Header;
+use sheet::MEMBER;
 use sheet::Node;
+use sheet::PERSON;
 use sheet::Seat;
 ghost use mathlib.Core.Path.{_≡_};
 ghost use Prim.Native.Nat.{_+_, _*_, _<_, _≤_};
@@ -72,9 +80,9 @@ fn is_member(sheet: &[u32], edges: &[u32], h: Header, seat: Seat, p: u32, c: u32
     requires { ⌜ AtSeat (now sheet) (now edges) h seat ⌝ }
     ensures { λ r. ⌜ r ≡ member (seenFrom (now (sheet .entry)) seat) p c ⌝ }
 {
-    let a = sheet::named(1, p, 0);
-    let b = sheet::named(2, c, 0);
-    is_related(sheet, edges, h, seat, 1, a, b)
+    let a = sheet::named(PERSON, p, 0);
+    let b = sheet::named(CATEGORY, c, 0);
+    is_related(sheet, edges, h, seat, MEMBER, a, b)
 }
 
 // Whether a side's paths lead from the one category to the other.
@@ -82,12 +90,12 @@ fn is_step(sheet: &[u32], edges: &[u32], h: Header, seat: Seat, kind: u32, c: u3
     requires { ⌜ AtSeat (now sheet) (now edges) h seat ⌝ }
     ensures { λ r. ⌜ r ≡ step (seenFrom (now (sheet .entry)) seat) (sideOf kind) c d ⌝ }
 {
-    let a = sheet::named(2, c, 0);
-    let b = sheet::named(2, d, 0);
-    if kind == 0 {
-        return is_related(sheet, edges, h, seat, 2, a, b);
+    let a = sheet::named(CATEGORY, c, 0);
+    let b = sheet::named(CATEGORY, d, 0);
+    if kind == OF_GRANTS {
+        return is_related(sheet, edges, h, seat, CONTAINED, a, b);
     }
-    is_related(sheet, edges, h, seat, 2, b, a)
+    is_related(sheet, edges, h, seat, CONTAINED, b, a)
 }
 
 // Whether a category has the side's right on the question's deed in the variant, which applies to the folio.
@@ -104,10 +112,11 @@ fn is_carried(
     ensures { λ r. ⌜ r ≡ carries (seenFrom (now (sheet .entry)) seat) (sideOf (q .kind)) (q .deed) v (q .folio) c ⌝ }
 {
     let right = question::right_of(q.kind);
-    let a = sheet::named(2, c, 0);
-    let b = sheet::named(3, q.deed, v);
-    let t = sheet::named(4, q.folio, 0);
-    is_related(sheet, edges, h, seat, right, a, b) & is_related(sheet, edges, h, seat, 5, b, t)
+    let a = sheet::named(CATEGORY, c, 0);
+    let b = sheet::named(DEED, q.deed, v);
+    let t = sheet::named(FOLIO, q.folio, 0);
+    is_related(sheet, edges, h, seat, right, a, b)
+        & is_related(sheet, edges, h, seat, APPLIES, b, t)
 }
 
 // Whether one of every second word, m of them from a place on, is c, or is not c where `same` is false.

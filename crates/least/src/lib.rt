@@ -1,7 +1,12 @@
 // Questions 8 and 9 at an office: the least triple that is Both, and the least person and folio with two deeds.
 use question::Question;
+use sheet::BAN;
+use sheet::DEED;
+use sheet::FOLIO;
+use sheet::GRANT;
 use sheet::Header;
 use sheet::Node;
+use sheet::PERSON;
 use sheet::Seat;
 use walk::Walk;
 ghost use mathlib.Core.Path.{_≡_};
@@ -37,7 +42,7 @@ struct Hit {
 fn start_number(r: Node, v: u32, number: u32) -> u32
     ensures { λ x. ⌜ x ≡ numberOf (starting r v number) ⌝ }
 {
-    if (r.class == 3) & ((r.number == number) & (v != 0)) {
+    if (r.class == DEED) & ((r.number == number) & (v != 0)) {
         return 1;
     }
     0
@@ -101,7 +106,7 @@ fn is_deed_in(sheet: &[u32], h: Header, d: &[u32], x: u32) -> bool
 {
     let at = x as usize;
     let r = sheet::node_at(sheet, at);
-    (r.class == 3) & (d[at] != 0)
+    (r.class == DEED) & (d[at] != 0)
 }
 
 // Whether the row before is a deed's of the same number that has a number in d.
@@ -140,7 +145,7 @@ fn is_common(sheet: &[u32], h: Header, one: &[u32], two: &[u32], f: u32) -> bool
         return false;
     }
     let r = sheet::node_at(sheet, at);
-    (two[at] != 0) & (r.class == 4)
+    (two[at] != 0) & (r.class == FOLIO)
 }
 
 // The first folio row that has a number in both; the node count where there is none.
@@ -172,7 +177,7 @@ fn pair_folio(
     requires { ⌜ WellFormed (now sheet) (now edges) h × Prepared (now sheet) (now edges) h (w .seat) 3 w (now index) × (i < h .nodes) ⌝ }
     ensures { λ r. ⌜ FirstRow (PairRows (now (sheet .entry)) (w .seat) (q .deed) (q .other) i) (h .nodes) r ⌝ }
 {
-    if !is_class(sheet, h, i, 1) {
+    if !is_class(sheet, h, i, PERSON) {
         return h.nodes;
     }
     let d = reach::person_reach(sheet, edges, h, w, index, i);
@@ -235,7 +240,7 @@ pub fn least_pair(
     requires { ⌜ AtSeat (now sheet) (now edges) h seat × (length (now list) ≡ maxEdges) ⌝ }
     ensures { λ r. ⌜ Finds (LeastPairIs (seenFrom (now (sheet .entry)) seat) (q .deed) (q .other)) (now (list .exit)) r ⌝ }
 {
-    let w = walk::walk_of(seat, 3, 0);
+    let w = walk::walk_of(seat, GRANT, 0);
     let index = walk::arranged(sheet, edges, h, w);
     let hit = first_pair(sheet, edges, h, q, w, &index);
     if !hit.found {
@@ -262,7 +267,7 @@ fn first_both(
     let n = h.nodes;
     let mut hit = no_hit();
     'search: for i in 0..n {
-        if !is_class(sheet, h, i, 1) {
+        if !is_class(sheet, h, i, PERSON) {
             continue;
         }
         let d = reach::person_reach(sheet, edges, h, grants, grantindex, i);
@@ -290,9 +295,9 @@ pub fn least_both(sheet: &[u32], edges: &[u32], h: Header, seat: Seat, list: &mu
     requires { ⌜ AtSeat (now sheet) (now edges) h seat × (length (now list) ≡ maxEdges) ⌝ }
     ensures { λ r. ⌜ Finds (LeastBothIs (seenFrom (now (sheet .entry)) seat)) (now (list .exit)) r ⌝ }
 {
-    let grants = walk::walk_of(seat, 3, 0);
+    let grants = walk::walk_of(seat, GRANT, 0);
     let grantindex = walk::arranged(sheet, edges, h, grants);
-    let bans = walk::walk_of(seat, 4, 0);
+    let bans = walk::walk_of(seat, BAN, 0);
     let banindex = walk::arranged(sheet, edges, h, bans);
     let hit = first_both(sheet, edges, h, grants, &grantindex, bans, &banindex);
     if !hit.found {

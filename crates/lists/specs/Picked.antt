@@ -6,6 +6,7 @@ use mathlib.Core.Bool.{Bool, true, false, not}
 use mathlib.Core.List.{List}
 use lib.ListN.{length, getD}
 use Rattle.tables.specs.Marks.{marked}
+use Rattle.sheet.specs.Kinds.{personType}
 use Rattle.sheet.specs.declared.Header.{Header}
 use Rattle.sheet.specs.Limits.{maxNodes}
 use Rattle.sheet.specs.Refusals.{_is_}
@@ -17,7 +18,7 @@ use Rattle.reach.specs.Reaching.{Tells, LeadsTo}
 pub record PersonLeads (s t : List ℕ) (h : Header) (office : ℕ) (w : Walk) (to p : ℕ) : Type 0 where
   pub row : ℕ
   pub inside : row < h .nodes
-  pub class : nodeAt s row .class ≡ 1
+  pub class : nodeAt s row .class ≡ personType
   pub bears : marked (nodeAt s row .offices) office ≡ true
   pub numbered : nodeAt s row .number ≡ p
   pub leads : LeadsTo s t h w row to
@@ -25,13 +26,13 @@ pub record PersonLeads (s t : List ℕ) (h : Header) (office : ℕ) (w : Walk) (
 -- for each row of a person, whether the walk leads from it to a row
 pub record PersonsReach (s t : List ℕ) (h : Header) (w : Walk) (to : ℕ) (m : List ℕ) : Type 0 where
   pub long : length m ≡ maxNodes
-  pub each : (i : ℕ) → i < h .nodes → nodeAt s i .class ≡ 1 → Tells (getD m i 0) (LeadsTo s t h w i to)
+  pub each : (i : ℕ) → i < h .nodes → nodeAt s i .class ≡ personType → Tells (getD m i 0) (LeadsTo s t h w i to)
 
 -- the walk leads to a row from some person's
 pub record FromPersons (s t : List ℕ) (h : Header) (w : Walk) (to : ℕ) : Type 0 where
   pub row : ℕ
   pub inside : row < h .nodes
-  pub class : nodeAt s row .class ≡ 1
+  pub class : nodeAt s row .class ≡ personType
   pub leads : LeadsTo s t h w row to
 
 -- for each row, whether the walk leads to it from some person's

@@ -3,6 +3,7 @@
 use Prim.Native.Nat.{ℕ}
 use mathlib.Core.Bool.{Bool, true, false, not}
 use mathlib.Core.List.{List}
+use Rattle.sheet.specs.Kinds.{categoryType, deedType, folioType}
 use Rattle.sheet.specs.Refusals.{_is_, _when_otherwise_, _orElse_}
 use Rattle.sheet.specs.Rows.{headerOf}
 use Rattle.meaning.specs.Questions.{PersonsAre, HoldersAre, UnreachedAre, LeastBothIs, LeastPairIs, RedundantAre}
@@ -11,15 +12,15 @@ use Rattle.question.specs.Asked.{asked, known, badOffice}
 
 -- question 5: 24 unknown category
 unfoldable pub unknownCategory : List ℕ → Question → ℕ
-unknownCategory s q = 24 when not (known s false (q .office) 2 (q .category)) otherwise 0
+unknownCategory s q = 24 when not (known s false (q .office) categoryType (q .category)) otherwise 0
 
 -- question 6: 22 unknown deed, 23 unknown folio
 unfoldable pub unknownRight : List ℕ → Question → ℕ
-unknownRight s q = 22 when not (known s false (q .office) 3 (q .deed)) otherwise 23 when not (known s false (q .office) 4 (q .folio)) otherwise 0
+unknownRight s q = 22 when not (known s false (q .office) deedType (q .deed)) otherwise 23 when not (known s false (q .office) folioType (q .folio)) otherwise 0
 
 -- question 9: 22 for either deed, then 31 for equal deeds
 unfoldable pub badPair : List ℕ → Question → ℕ
-badPair s q = 22 when not (known s false (q .office) 3 (q .deed)) otherwise 22 when not (known s false (q .office) 3 (q .other)) otherwise 31 when q .deed is q .other otherwise 0
+badPair s q = 22 when not (known s false (q .office) deedType (q .deed)) otherwise 22 when not (known s false (q .office) deedType (q .other)) otherwise 31 when q .deed is q .other otherwise 0
 
 -- a choice by a test
 abbrev pub chosen : {A : Type 1} → Bool → A → A → A

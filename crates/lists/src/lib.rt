@@ -1,8 +1,13 @@
 // Questions 5 to 10: the persons in a category, the holders of a right, the folios out of reach, the least triple that is Both, the least pair, and the redundant rows.
 use question::Answer;
 use question::Question;
+use sheet::CATEGORY;
+use sheet::DEED;
+use sheet::FOLIO;
+use sheet::GRANT;
 use sheet::Header;
 use sheet::Node;
+use sheet::PERSON;
 use sheet::Seat;
 use walk::Walk;
 ghost use mathlib.Core.Path.{_≡_};
@@ -12,6 +17,7 @@ ghost use lib.ListN.{length, take, drop};
 ghost use mathlib.Core.List.{_++_};
 ghost use Rattle.tables.specs.Count.{numberOf};
 ghost use Rattle.tables.specs.Marks.{marked};
+ghost use Rattle.sheet.specs.Kinds.{personType, deedType};
 ghost use Rattle.sheet.specs.Limits.{maxNodes, maxEdges};
 ghost use Rattle.sheet.specs.Refusals.{_is_, _when_otherwise_, none};
 ghost use Rattle.sheet.specs.Rows.{headerOf, nodeAt};
@@ -66,7 +72,7 @@ fn numbers_of(
     d: [u32; ROWS],
     list: &mut [u32],
 ) -> u32
-    requires { ⌜ NodesFormed (now sheet) h × Seated seat × (class ≡ 3 → ⊥) × (length d ≡ maxNodes) × (length (now list) ≡ maxEdges) ⌝ }
+    requires { ⌜ NodesFormed (now sheet) h × Seated seat × (class ≡ deedType → ⊥) × (length d ≡ maxNodes) × (length (now list) ≡ maxEdges) ⌝ }
     ensures { λ r. ⌜ Finds (Rising (PickedNumber (now (sheet .entry)) (h .nodes) (seat .office) class reached d)) (now (list .exit)) r ⌝ }
 {
     let rows = h.nodes;
@@ -93,10 +99,10 @@ fn person_reaches(
     to: u32,
 ) -> u32
     requires { ⌜ WellFormed (now sheet) (now edges) h × Seated (w .seat) × Arranged (now sheet) (now edges) h w (now index) × (from < h .nodes) × (to < h .nodes) ⌝ }
-    ensures { λ r. ⌜ (nodeAt (now (sheet .entry)) from .class ≡ 1 → Tells r (LeadsTo (now (sheet .entry)) (now (edges .entry)) h w from to)) ⌝ }
+    ensures { λ r. ⌜ (nodeAt (now (sheet .entry)) from .class ≡ personType → Tells r (LeadsTo (now (sheet .entry)) (now (edges .entry)) h w from to)) ⌝ }
 {
     let r = sheet::node_at(sheet, from as usize);
-    if r.class != 1 {
+    if r.class != PERSON {
         return 0;
     }
     let d = reach::person_reach(sheet, edges, h, w, index, from);
@@ -140,10 +146,10 @@ fn persons_to(
     requires { ⌜ AtSeat (now sheet) (now edges) h seat × (to < h .nodes) × (length (now list) ≡ maxEdges) ⌝ }
     ensures { λ r. ⌜ Finds (Rising (PersonLeads (now (sheet .entry)) (now (edges .entry)) h (seat .office) (walkOf seat 3 deed) to)) (now (list .exit)) r ⌝ }
 {
-    let w = walk::walk_of(seat, 3, deed);
+    let w = walk::walk_of(seat, GRANT, deed);
     let index = walk::arranged(sheet, edges, h, w);
     let m = persons_reaching(sheet, edges, h, w, &index, to);
-    numbers_of(sheet, h, seat, 1, true, m, list)
+    numbers_of(sheet, h, seat, PERSON, true, m, list)
 }
 
 // Question 5 from the seat: the persons in a category that its office knows.
@@ -158,7 +164,7 @@ fn persons_within(
     requires { ⌜ AtSeat (now sheet) (now edges) h seat × (known (now sheet) false (seat .office) 2 (q .category) ≡ true) × (length (now list) ≡ maxEdges) ⌝ }
     ensures { λ r. ⌜ Finds (PersonsAre (seenFrom (now (sheet .entry)) seat) (q .category)) (now (list .exit)) r ⌝ }
 {
-    let to = question::seek(sheet, h, false, seat, 2, q.category);
+    let to = question::seek(sheet, h, false, seat, CATEGORY, q.category);
     persons_to(sheet, edges, h, seat, 0, to, list)
 }
 
@@ -174,15 +180,15 @@ fn persons_holding(
     requires { ⌜ AtSeat (now sheet) (now edges) h seat × (known (now sheet) false (seat .office) 3 (q .deed) ≡ true) × (known (now sheet) false (seat .office) 4 (q .folio) ≡ true) × (length (now list) ≡ maxEdges) ⌝ }
     ensures { λ r. ⌜ Finds (HoldersAre (seenFrom (now (sheet .entry)) seat) (q .deed) (q .folio)) (now (list .exit)) r ⌝ }
 {
-    let to = question::seek(sheet, h, false, seat, 4, q.folio);
+    let to = question::seek(sheet, h, false, seat, FOLIO, q.folio);
     persons_to(sheet, edges, h, seat, q.deed, to, list)
 }
 
 // 1 at a person's row, 0 at any other.
 fn person_start(r: Node) -> u32
-    ensures { λ x. ⌜ x ≡ numberOf (r .class is 1) ⌝ }
+    ensures { λ x. ⌜ x ≡ numberOf (r .class is personType) ⌝ }
 {
-    if r.class == 1 {
+    if r.class == PERSON {
         return 1;
     }
     0
@@ -191,7 +197,7 @@ fn person_start(r: Node) -> u32
 // 1 at the persons' rows, 0 at every other row.
 fn person_starts(sheet: &[u32], h: Header) -> [u32; ROWS]
     requires { ⌜ NodesFormed (now sheet) h ⌝ }
-    ensures { λ r. ⌜ Started (λ i. nodeAt (now (sheet .entry)) i .class is 1) (h .nodes) r ⌝ }
+    ensures { λ r. ⌜ Started (λ i. nodeAt (now (sheet .entry)) i .class is personType) (h .nodes) r ⌝ }
 {
     let mut starts = [0u32; ROWS];
     let n = h.nodes;
@@ -220,9 +226,9 @@ fn folios_unreached(sheet: &[u32], edges: &[u32], h: Header, seat: Seat, list: &
     requires { ⌜ AtSeat (now sheet) (now edges) h seat × (length (now list) ≡ maxEdges) ⌝ }
     ensures { λ r. ⌜ Finds (UnreachedAre (seenFrom (now (sheet .entry)) seat)) (now (list .exit)) r ⌝ }
 {
-    let w = walk::walk_of(seat, 3, 0);
+    let w = walk::walk_of(seat, GRANT, 0);
     let d = persons_lead(sheet, edges, h, w);
-    numbers_of(sheet, h, seat, 4, false, d, list)
+    numbers_of(sheet, h, seat, FOLIO, false, d, list)
 }
 
 // Whether the seat's office knows a type and number.
@@ -257,7 +263,7 @@ fn unknown_category(sheet: &[u32], h: Header, seat: Seat, q: Question) -> u32
     requires { ⌜ NodesFormed (now sheet) h × (h ≡ headerOf (now sheet)) × Seated seat × (seat ≡ seatFor q) ⌝ }
     ensures { λ r. ⌜ r ≡ unknownCategory (now (sheet .entry)) q ⌝ }
 {
-    unknown_line(sheet, h, seat, 2, q.category, 24, 0)
+    unknown_line(sheet, h, seat, CATEGORY, q.category, 24, 0)
 }
 
 // Question 6: 22, 23 where the seat's office does not know the deed or the folio.
@@ -265,8 +271,8 @@ fn unknown_right(sheet: &[u32], h: Header, seat: Seat, q: Question) -> u32
     requires { ⌜ NodesFormed (now sheet) h × (h ≡ headerOf (now sheet)) × Seated seat × (seat ≡ seatFor q) ⌝ }
     ensures { λ r. ⌜ r ≡ unknownRight (now (sheet .entry)) q ⌝ }
 {
-    let after = unknown_line(sheet, h, seat, 4, q.folio, 23, 0);
-    unknown_line(sheet, h, seat, 3, q.deed, 22, after)
+    let after = unknown_line(sheet, h, seat, FOLIO, q.folio, 23, 0);
+    unknown_line(sheet, h, seat, DEED, q.deed, 22, after)
 }
 
 // 31 where the two deeds are one.
@@ -284,8 +290,8 @@ fn bad_pair(sheet: &[u32], h: Header, seat: Seat, q: Question) -> u32
     requires { ⌜ NodesFormed (now sheet) h × (h ≡ headerOf (now sheet)) × Seated seat × (seat ≡ seatFor q) ⌝ }
     ensures { λ r. ⌜ r ≡ badPair (now (sheet .entry)) q ⌝ }
 {
-    let after = unknown_line(sheet, h, seat, 3, q.other, 22, same_deed(q));
-    unknown_line(sheet, h, seat, 3, q.deed, 22, after)
+    let after = unknown_line(sheet, h, seat, DEED, q.other, 22, same_deed(q));
+    unknown_line(sheet, h, seat, DEED, q.deed, 22, after)
 }
 
 // What is refused of a question from the seat, by the question's number.

@@ -7,6 +7,7 @@ use mathlib.Core.List.{List}
 use Rattle.tables.specs.Count.{someRow}
 use Rattle.tables.specs.Marks.{marked}
 use Rattle.tables.specs.Office.{View}
+use Rattle.sheet.specs.Kinds.{personType, deedType, folioType}
 use Rattle.sheet.specs.declared.Refusal.{Refusal}
 use Rattle.sheet.specs.declared.Header.{Header}
 use Rattle.sheet.specs.declared.Seat.{Seat}
@@ -15,6 +16,7 @@ use Rattle.sheet.specs.Rows.{headerOf, nodeAt}
 use Rattle.sheet.specs.Seats.{seatAt, seenFrom}
 use Rattle.sheet.specs.Verdict.{verdict}
 use Rattle.meaning.specs.Paths.{Side, grant, ban}
+use Rattle.meaning.specs.Answers.{grantFirstRule, firstApplicableRule}
 use Rattle.question.specs.declared.Question.{Question}
 
 -- kind 0 asks for a grant and any other for a ban
@@ -41,9 +43,9 @@ known s any office class number = someRow (stands s any office class number) (he
 -- 21, 22, 23 unknown person, deed, folio
 unfoldable pub unknown : List ℕ → Bool → ℕ → Question → ℕ
 unknown s any office q =
-    21 when not (known s any office 1 (q .person)) otherwise
-    22 when not (known s any office 3 (q .deed)) otherwise
-    23 when not (known s any office 4 (q .folio)) otherwise
+    21 when not (known s any office personType (q .person)) otherwise
+    22 when not (known s any office deedType (q .deed)) otherwise
+    23 when not (known s any office folioType (q .folio)) otherwise
     0
 
 -- 20 office number not 1 to the count
@@ -56,7 +58,7 @@ askFault s q = badOffice (headerOf s) (q .office) orElse unknown s false (q .off
 
 -- 27 rule number, then the unknown to any office, whichever is named: question 2
 unfoldable pub jointFault : List ℕ → Question → ℕ
-jointFault s q = 27 when q .rule below 1 || 3 below q .rule otherwise unknown s true 1 q
+jointFault s q = 27 when q .rule below grantFirstRule || firstApplicableRule below q .rule otherwise unknown s true 1 q
 
 -- a number at place 0, 0
 abbrev pub plain : ℕ → Refusal

@@ -1,4 +1,6 @@
 // What a question is, what it is refused by for its office and identities, and what every reply is made of.
+use sheet::BAN;
+use sheet::GRANT;
 use sheet::Header;
 use sheet::Node;
 use sheet::Refusal;
@@ -15,7 +17,12 @@ ghost use Rattle.meaning.specs.Paths.{rightKind};
 ghost use Rattle.question.specs.Asked.{FirstStanding, stands, badOffice, sideOf};
 ghost use Rattle.question.specs.Replies.{refusedBy, tells};
 
-// What is asked. Each question looks at the numbers that it names: office or rule, kind, 0 for a grant and any other for a ban, and `other` where it names two deeds.
+// What a question's kind asks for: grants, or bans, which any other number asks for too.
+pub const OF_GRANTS: u32 = 0;
+
+pub const OF_BANS: u32 = 1;
+
+// What is asked. Each question looks at the numbers that it names: office or rule, kind, and `other` where it names two deeds.
 pub struct Question {
     pub office: u32,
     pub rule: u32,
@@ -96,7 +103,7 @@ pub fn bad_office(h: Header, office: u32) -> u32
 pub fn right_of(kind: u32) -> u32
     ensures { λ r. ⌜ r ≡ rightKind (sideOf kind) ⌝ }
 {
-    if kind == 0 { 3 } else { 4 }
+    if kind == OF_GRANTS { GRANT } else { BAN }
 }
 
 // A refusal as an answer.

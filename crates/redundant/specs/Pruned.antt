@@ -5,6 +5,7 @@ use mathlib.Core.Path.{_≡_}
 use mathlib.Core.Bool.{true, cond}
 use mathlib.Core.List.{List}
 use lib.ListN.{length}
+use Rattle.sheet.specs.Kinds.{banKind}
 use Rattle.sheet.specs.declared.Edge.{Edge}
 use Rattle.sheet.specs.declared.Header.{Header}
 use Rattle.sheet.specs.declared.Seat.{Seat}
@@ -22,7 +23,7 @@ sideWalk seat side = walkOf seat (rightKind side) 0
 
 -- a ban row is judged by the bans' walk, every other by the grants'
 abbrev pub sideFor : ℕ → Side
-sideFor kind = cond (kind is 4) ban grant
+sideFor kind = cond (kind is banKind) ban grant
 
 -- the arcs of both walks, in order
 pub record BothArranged (s t : List ℕ) (h : Header) (seat : Seat) (grantIndex banIndex : List ℕ) : Type 0 where

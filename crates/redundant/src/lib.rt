@@ -1,5 +1,7 @@
 // Question 10 at an office: the rows that are redundant, each judged by a walk without its step.
+use sheet::BAN;
 use sheet::Edge;
+use sheet::GRANT;
 use sheet::Header;
 use sheet::Seat;
 use walk::LeftOut;
@@ -43,11 +45,11 @@ fn past_row(
     requires { ⌜ WellFormed (now sheet) (now edges) h × Seated seat × BothArranged (now sheet) (now edges) h seat (now grantindex) (now banindex) × (but .from < h .nodes) ⌝ }
     ensures { λ r. ⌜ PastRow (now (sheet .entry)) (now (edges .entry)) h seat kind but r ⌝ }
 {
-    if kind == 4 {
-        let bans = walk::leaving_out(walk::walk_of(seat, 4, 0), but);
+    if kind == BAN {
+        let bans = walk::leaving_out(walk::walk_of(seat, BAN, 0), but);
         return walk::reach(sheet, edges, h, bans, banindex, but.from);
     }
-    let grants = walk::leaving_out(walk::walk_of(seat, 3, 0), but);
+    let grants = walk::leaving_out(walk::walk_of(seat, GRANT, 0), but);
     walk::reach(sheet, edges, h, grants, grantindex, but.from)
 }
 
@@ -111,7 +113,7 @@ pub fn redundant_rows(sheet: &[u32], edges: &[u32], h: Header, seat: Seat, list:
     requires { ⌜ AtSeat (now sheet) (now edges) h seat × (length (now list) ≡ maxEdges) ⌝ }
     ensures { λ r. ⌜ Finds (RedundantAre (now (sheet .entry)) (seat .office)) (now (list .exit)) r ⌝ }
 {
-    let grantindex = walk::arranged(sheet, edges, h, walk::walk_of(seat, 3, 0));
-    let banindex = walk::arranged(sheet, edges, h, walk::walk_of(seat, 4, 0));
+    let grantindex = walk::arranged(sheet, edges, h, walk::walk_of(seat, GRANT, 0));
+    let banindex = walk::arranged(sheet, edges, h, walk::walk_of(seat, BAN, 0));
     prune(sheet, edges, h, seat, &grantindex, &banindex, list)
 }

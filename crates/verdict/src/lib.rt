@@ -1,13 +1,22 @@
 // The check: refusals 1 to 17 of any words, with their place.
+use sheet::APPLIES;
+use sheet::BAN;
+use sheet::CATEGORY;
+use sheet::CONTAINED;
+use sheet::DEED;
 use sheet::EDGE_WORDS;
 use sheet::Edge;
+use sheet::FOLIO;
+use sheet::GRANT;
 use sheet::HEADER_WORDS;
 use sheet::Header;
 use sheet::MAX_EDGES;
 use sheet::MAX_NODES;
 use sheet::MAX_OFFICES;
+use sheet::MEMBER;
 use sheet::NODE_WORDS;
 use sheet::Node;
+use sheet::PERSON;
 use sheet::Refusal;
 ghost use mathlib.Core.Path.{_≡_};
 ghost use Prim.Native.Nat.{_<_, _≤_};
@@ -40,11 +49,11 @@ fn marks_within(marks: u32, others: u32) -> bool
 fn ends_fit(kind: u32, from: u32, to: u32) -> bool
     ensures { λ r. ⌜ r ≡ endsFit kind from to ⌝ }
 {
-    ((kind == 1) & ((from == 1) & (to == 2)))
-        | (((kind == 2) & ((from == 2) & (to == 2)))
-            | (((kind == 3) & ((from == 2) & (to == 3)))
-                | (((kind == 4) & ((from == 2) & (to == 3)))
-                    | ((kind == 5) & ((from == 3) & (to == 4))))))
+    ((kind == MEMBER) & ((from == PERSON) & (to == CATEGORY)))
+        | (((kind == CONTAINED) & ((from == CATEGORY) & (to == CATEGORY)))
+            | (((kind == GRANT) & ((from == CATEGORY) & (to == DEED)))
+                | (((kind == BAN) & ((from == CATEGORY) & (to == DEED)))
+                    | ((kind == APPLIES) & ((from == DEED) & (to == FOLIO))))))
 }
 
 // The first of two numbers that is not 0.
@@ -94,10 +103,10 @@ fn node_fault(h: Header, r: Node) -> u32
     requires { ⌜ h .offices ≤ maxOffices ⌝ }
     ensures { λ k. ⌜ k ≡ nodeFault h r ⌝ }
 {
-    if (r.class < 1) | (4 < r.class) {
+    if (r.class < PERSON) | (FOLIO < r.class) {
         return 6;
     }
-    if (r.number == 0) | ((r.class != 3) & (r.variant != 0)) {
+    if (r.number == 0) | ((r.class != DEED) & (r.variant != 0)) {
         return 7;
     }
     if !marks_fit(h.offices, r.offices) {
@@ -110,7 +119,7 @@ fn node_fault(h: Header, r: Node) -> u32
 fn edge_shape(h: Header, e: Edge) -> u32
     ensures { λ k. ⌜ k ≡ edgeShape h e ⌝ }
 {
-    if (e.kind < 1) | (5 < e.kind) {
+    if (e.kind < MEMBER) | (APPLIES < e.kind) {
         return 11;
     }
     if !((e.from < h.nodes) & (e.to < h.nodes)) {
@@ -127,7 +136,7 @@ fn edge_fit(h: Header, e: Edge, a: Node, b: Node) -> u32
     if !ends_fit(e.kind, a.class, b.class) {
         return 13;
     }
-    if (e.kind == 2) & (e.from == e.to) {
+    if (e.kind == CONTAINED) & (e.from == e.to) {
         return 14;
     }
     if !(marks_fit(h.offices, e.offices)
