@@ -21,13 +21,13 @@ use Rattle.paths.proofs.Ways.{first-step, shortened}
 use Rattle.meaning.specs.Paths.{Side, person, category, deed, folio, member, right, applies, step, carries, path, pairs, spell, isPath, HasPath}
 use Rattle.meaning.proofs.Spelling.{has-path, spelt}
 use Rattle.walk.specs.Arcs.{Steps}
-use Rattle.ask.specs.Written.{nodeWords}
+use Rattle.ask.specs.PathRows.{spelledRows}
 use Rattle.ask.proofs.Links.{walkFor, Link, joins, climbs, gives-right, serves, link-of, member-arc, step-arc, right-arc, applies-arc, same-row}
 
 -- a row's two words, by its key
-named : (s : List ℕ) (i t n v : ℕ) (rows : List ℕ) → nodeKeyAt s i ≡ t ∷ n ∷ v ∷ [] → nodeWords s (i ∷ rows) ≡ n ∷ v ∷ nodeWords s rows
-unfolding nodeWords
-named s i t n v rows e =
+row-words : (s : List ℕ) (i t n v : ℕ) (rows : List ℕ) → nodeKeyAt s i ≡ t ∷ n ∷ v ∷ [] → spelledRows s (i ∷ rows) ≡ n ∷ v ∷ spelledRows s rows
+unfolding spelledRows
+row-words s i t n v rows e =
     let a : nodeAt s i .number ≡ n = cc in
     let b : nodeAt s i .variant ≡ v = cc in
     rw (a, b)
@@ -54,16 +54,16 @@ module _ (s : List ℕ) (acc : Accepted s) (seat : Seat) (side : Side) (d : ℕ)
     pub categories : List ℕ
     pub variant : ℕ
     pub walks : Goes c categories variant
-    pub words : nodeWords s rows ≡ c ∷ 0 ∷ tailWords categories variant
+    pub words : spelledRows s rows ≡ c ∷ 0 ∷ tailWords categories variant
 
   -- ---- from rows to words
 
-  folio-ends : (x f′ : ℕ) (rows : List ℕ) → nodeKeyAt s x ≡ folio f′ → Trail Arcs Goal x rows → (f′ ≡ f) × (nodeWords s rows ≡ f ∷ 0 ∷ [])
-  unfolding nodeWords
+  folio-ends : (x f′ : ℕ) (rows : List ℕ) → nodeKeyAt s x ≡ folio f′ → Trail Arcs Goal x rows → (f′ ≡ f) × (spelledRows s rows ≡ f ∷ 0 ∷ [])
+  unfolding spelledRows
   folio-ends x f′ rows e (ends t) =
       let q : folio f′ ≡ folio f = sym e ∙ ap (nodeKeyAt s) t ∙ is-folio in
       let z : f′ ≡ f = cc in
-      (z, named s x 4 f 0 [] (e ∙ ap (λ (y : ℕ). folio y) z))
+      (z, row-words s x 4 f 0 [] (e ∙ ap (λ (y : ℕ). folio y) z))
   folio-ends x f′ rows e (goes {b = b} st w) = absurd (never (link-of s acc seat side d some x b st))
     where
       never : Link s acc seat side d x b → ⊥
@@ -72,11 +72,11 @@ module _ (s : List ℕ) (acc : Accepted s) (seat : Seat) (side : Side) (d : ℕ)
       never (gives-right c v u w m) = let z : _≡_ {A = ℕ} 2 4 = cc in omega arith
       never (serves y v f″ u w m) = let z : _≡_ {A = ℕ} 3 4 = cc in omega arith
 
-  deed-ends : (x v : ℕ) (rows : List ℕ) → nodeKeyAt s x ≡ deed d v → Trail Arcs Goal x rows → (applies g d v f ≡ true) × (nodeWords s rows ≡ d ∷ v ∷ f ∷ 0 ∷ [])
+  deed-ends : (x v : ℕ) (rows : List ℕ) → nodeKeyAt s x ≡ deed d v → Trail Arcs Goal x rows → (applies g d v f ≡ true) × (spelledRows s rows ≡ d ∷ v ∷ f ∷ 0 ∷ [])
   deed-ends x v rows e (ends t) = absurd (let q : deed d v ≡ folio f = sym e ∙ ap (nodeKeyAt s) t ∙ is-folio in let z : _≡_ {A = ℕ} 3 4 = cc in omega arith)
   deed-ends x v rows e (goes {b = b} {l = l} st w) = by (link-of s acc seat side d some x b st)
     where
-      by : Link s acc seat side d x b → (applies g d v f ≡ true) × (nodeWords s (x ∷ l) ≡ d ∷ v ∷ f ∷ 0 ∷ [])
+      by : Link s acc seat side d x b → (applies g d v f ≡ true) × (spelledRows s (x ∷ l) ≡ d ∷ v ∷ f ∷ 0 ∷ [])
       by (joins p c u y m) = absurd (let z : _≡_ {A = ℕ} 1 3 = cc in omega arith)
       by (climbs c c′ u y m) = absurd (let z : _≡_ {A = ℕ} 2 3 = cc in omega arith)
       by (gives-right c y u z m) = absurd (let z : _≡_ {A = ℕ} 2 3 = cc in omega arith)
@@ -85,7 +85,7 @@ module _ (s : List ℕ) (acc : Accepted s) (seat : Seat) (side : Side) (d : ℕ)
           let b′ : v′ ≡ v = cc in
           let r = folio-ends b f″ l z w in (
             subst (λ (q : ℕ). applies g d v q ≡ true) (r .0) (subst (λ (q : ℕ). applies g d q f″ ≡ true) b′ (subst (λ (q : ℕ). applies g q v′ f″ ≡ true) a m)),
-            named s x 3 d v l e ∙ ap (λ (q : List ℕ). d ∷ v ∷ q) (r .1),
+            row-words s x 3 d v l e ∙ ap (λ (q : List ℕ). d ∷ v ∷ q) (r .1),
           )
 
   pub trail-read : (x c : ℕ) (rows : List ℕ) → nodeKeyAt s x ≡ category c → Trail Arcs Goal x rows → Read c rows
@@ -101,7 +101,7 @@ module _ (s : List ℕ) (acc : Accepted s) (seat : Seat) (side : Side) (d : ℕ)
             categories = c″ ∷ r .categories;
             variant = r .variant;
             walks = (subst (λ (q : ℕ). step g side q c″ ≡ true) a m, r .walks);
-            words = named s x 2 c 0 l e ∙ ap (λ (q : List ℕ). c ∷ 0 ∷ q) (r .words);
+            words = row-words s x 2 c 0 l e ∙ ap (λ (q : List ℕ). c ∷ 0 ∷ q) (r .words);
           }
       by (gives-right c′ v u y m) later =
           let a : c′ ≡ c = cc in
@@ -110,32 +110,32 @@ module _ (s : List ℕ) (acc : Accepted s) (seat : Seat) (side : Side) (d : ℕ)
             categories = [];
             variant = v;
             walks = both (subst (λ (q : ℕ). right g side q d v ≡ true) a m) (r .0);
-            words = named s x 2 c 0 l e ∙ ap (λ (q : List ℕ). c ∷ 0 ∷ q) (r .1);
+            words = row-words s x 2 c 0 l e ∙ ap (λ (q : List ℕ). c ∷ 0 ∷ q) (r .1);
           }
       by (serves y v′ f″ u z m) later = absurd (let z : _≡_ {A = ℕ} 2 3 = cc in omega arith)
 
   -- ---- from words to rows
 
-  pub record Laid (x : ℕ) (ws : List ℕ) : Type 0 where
+  pub record RowsFor (x : ℕ) (ws : List ℕ) : Type 0 where
     pub rows : List ℕ
     pub trail : Trail Arcs Goal x rows
-    pub words : nodeWords s rows ≡ ws
+    pub words : spelledRows s rows ≡ ws
 
-  pub lay : (c : ℕ) (cs : List ℕ) (v x : ℕ) → Goes c cs v → x < headerOf s .nodes → nodeKeyAt s x ≡ category c → Laid x (c ∷ 0 ∷ tailWords cs v)
-  unfolding nodeWords
-  lay c [] v x w l e =
+  pub rows-for : (c : ℕ) (cs : List ℕ) (v x : ℕ) → Goes c cs v → x < headerOf s .nodes → nodeKeyAt s x ≡ category c → RowsFor x (c ∷ 0 ∷ tailWords cs v)
+  unfolding spelledRows
+  rows-for c [] v x w l e =
       let a = right-arc s acc seat side d x c v l e (and-left (right g side c d v) _ w) in
       let b = applies-arc s acc seat side d (a .row) d v f (a .inside) (a .names) (and-right (right g side c d v) _ w) in
       let z : b .row ≡ rf = same-row s acc seat side d (b .row) rf (folio f) (b .inside) inside (b .names) is-folio in
       record {
         rows = x ∷ a .row ∷ b .row ∷ [];
         trail = goes (a .arc) (goes (b .arc) (ends z));
-        words = named s x 2 c 0 (a .row ∷ b .row ∷ []) e ∙ ap (λ (q : List ℕ). c ∷ 0 ∷ q) (named s (a .row) 3 d v (b .row ∷ []) (a .names) ∙ ap (λ (q : List ℕ). d ∷ v ∷ q) (named s (b .row) 4 f 0 [] (b .names)));
+        words = row-words s x 2 c 0 (a .row ∷ b .row ∷ []) e ∙ ap (λ (q : List ℕ). c ∷ 0 ∷ q) (row-words s (a .row) 3 d v (b .row ∷ []) (a .names) ∙ ap (λ (q : List ℕ). d ∷ v ∷ q) (row-words s (b .row) 4 f 0 [] (b .names)));
       }
-  lay c (b ∷ cs) v x w l e =
+  rows-for c (b ∷ cs) v x w l e =
       let a = step-arc s acc seat side d x c b l e (w .0) in
-      let r = lay b cs v (a .row) (w .1) (a .inside) (a .names) in
-      record { rows = x ∷ r .rows; trail = goes (a .arc) (r .trail); words = named s x 2 c 0 (r .rows) e ∙ ap (λ (q : List ℕ). c ∷ 0 ∷ q) (r .words) }
+      let r = rows-for b cs v (a .row) (w .1) (a .inside) (a .names) in
+      record { rows = x ∷ r .rows; trail = goes (a .arc) (r .trail); words = row-words s x 2 c 0 (r .rows) e ∙ ap (λ (q : List ℕ). c ∷ 0 ∷ q) (r .words) }
 
   -- ---- from the person on
 
@@ -145,7 +145,7 @@ module _ (s : List ℕ) (acc : Accepted s) (seat : Seat) (side : Side) (d : ℕ)
     pub variant : ℕ
     pub assigned : member g p start ≡ true
     pub walks : Goes start categories variant
-    pub words : nodeWords s rows ≡ spell p (start ∷ categories) d variant f
+    pub words : spelledRows s rows ≡ spell p (start ∷ categories) d variant f
 
   pub person-read : (x p : ℕ) (rows : List ℕ) → nodeKeyAt s x ≡ person p → Trail Arcs Goal x rows → FromPerson p rows
   unfolding spell
@@ -162,7 +162,7 @@ module _ (s : List ℕ) (acc : Accepted s) (seat : Seat) (side : Side) (d : ℕ)
             variant = r .variant;
             assigned = subst (λ (q : ℕ). member g q c ≡ true) a m;
             walks = r .walks;
-            words = named s x 1 p 0 l e ∙ ap (λ (q : List ℕ). p ∷ 0 ∷ q) (r .words);
+            words = row-words s x 1 p 0 l e ∙ ap (λ (q : List ℕ). p ∷ 0 ∷ q) (r .words);
           }
       by (climbs c c′ u y m) = absurd (let z : _≡_ {A = ℕ} 2 1 = cc in omega arith)
       by (gives-right c v u y m) = absurd (let z : _≡_ {A = ℕ} 2 1 = cc in omega arith)
@@ -173,13 +173,13 @@ module _ (s : List ℕ) (acc : Accepted s) (seat : Seat) (side : Side) (d : ℕ)
   leads-walk c [] v e = e
   leads-walk c (b ∷ cs) v e = let q = first-step (step g side) (carries g side d v f) c b cs e in (q .0, leads-walk b cs v (q .2))
 
-  pub lay-path : (x p : ℕ) (cs : List ℕ) (v : ℕ) → x < headerOf s .nodes → nodeKeyAt s x ≡ person p → path g side p d f cs v ≡ true → Laid x (spell p cs d v f)
-  unfolding path spell nodeWords
+  pub lay-path : (x p : ℕ) (cs : List ℕ) (v : ℕ) → x < headerOf s .nodes → nodeKeyAt s x ≡ person p → path g side p d f cs v ≡ true → RowsFor x (spell p cs d v f)
+  unfolding path spell spelledRows
   lay-path x p [] v l e q = absurd (false≢true q)
   lay-path x p (c ∷ cs) v l e q =
       let a = member-arc s acc seat side d x p c l e (and-left (member g p c) _ q) in
-      let r = lay c cs v (a .row) (leads-walk c cs v (and-right (member g p c) _ q)) (a .inside) (a .names) in
-      record { rows = x ∷ r .rows; trail = goes (a .arc) (r .trail); words = named s x 1 p 0 (r .rows) e ∙ ap (λ (w : List ℕ). p ∷ 0 ∷ w) (r .words) }
+      let r = rows-for c cs v (a .row) (leads-walk c cs v (and-right (member g p c) _ q)) (a .inside) (a .names) in
+      record { rows = x ∷ r .rows; trail = goes (a .arc) (r .trail); words = row-words s x 1 p 0 (r .rows) e ∙ ap (λ (w : List ℕ). p ∷ 0 ∷ w) (r .words) }
 
   -- ---- there is a path exactly if there is a trail
 
@@ -194,10 +194,10 @@ module _ (s : List ℕ) (acc : Accepted s) (seat : Seat) (side : Side) (d : ℕ)
       let w = shortened (step g side) (carries g side d (r .variant) f) (q .1) (q .2) in
       has-path g side p d f (record { start = r .start; by = w .by; variant = r .variant; assigned = r .assigned; leads-on = w .leads-on })
 
-  pub path-trail : (x p : ℕ) (ws : List ℕ) → x < headerOf s .nodes → nodeKeyAt s x ≡ person p → isPath g side p d f ws ≡ true → Laid x ws
+  pub path-trail : (x p : ℕ) (ws : List ℕ) → x < headerOf s .nodes → nodeKeyAt s x ≡ person p → isPath g side p d f ws ≡ true → RowsFor x ws
   path-trail x p ws l e q =
       let r = spelt g side p d f ws q in
-      subst (Laid x) (sym (r .words)) (lay-path x p (r .categories) (r .variant) l e (r .leads-on))
+      subst (RowsFor x) (sym (r .words)) (lay-path x p (r .categories) (r .variant) l e (r .leads-on))
 
   -- ---- a shortest walk is a path: it repeats no category
 

@@ -18,7 +18,7 @@ use Rattle.sheet.specs.Named.{nodeRow, seenAt}
 use Rattle.sheet.specs.Seats.{seenFrom}
 use Rattle.sheet.proofs.Forming.{words-of}
 use Rattle.sheet.proofs.Naming.{node-seen, ends-seen}
-use Rattle.paths.specs.Steps.{Layers}
+use Rattle.paths.specs.Reached.{Layers}
 use Rattle.paths.proofs.Tests.{both}
 use Rattle.paths.proofs.Distances.{zero-or}
 use Rattle.paths.proofs.Trails.{listed, numbered}

@@ -15,7 +15,7 @@ use Rattle.sheet.specs.Rows.{headerOf}
 use Rattle.sheet.specs.Accepted.{WellFormed}
 use Rattle.sheet.specs.Named.{seenAt}
 use Rattle.sheet.proofs.Refusing.{taken, left}
-use Rattle.meaning.specs.Answers.{AnswerIs, Joint, lowest, jointly, JointIs}
+use Rattle.meaning.specs.Answers.{AnswerIs, Joint, lowest, jointly, JointAnswerIs}
 use Rattle.question.specs.declared.Question.{Question}
 use Rattle.question.specs.Asked.{FirstStanding, unknown, jointFault}
 
@@ -86,7 +86,7 @@ module _ (s t : List ℕ) (h : Header) (f : WellFormed s t h) (q : Question) (rs
   offices-same : h .offices ≡ headerOf s .offices
   offices-same = ap (λ (x : Header). x .offices) (f .head)
 
-  pub joint-is : JointIs (seenAt s) (headerOf s .offices) (q .rule) (q .person) (q .deed) (q .folio)
+  pub joint-is : JointAnswerIs (seenAt s) (headerOf s .offices) (q .rule) (q .person) (q .deed) (q .folio)
       (record { answer = jointly (q .rule) (take (h .offices) rs) .answer; office = jointly (q .rule) (take (h .offices) rs) .office })
   joint-is =
       record {

@@ -10,6 +10,7 @@ use borrow.Author.Tests.{eqb-true, eq-eqb, ne-eqb}
 use Rattle.tables.specs.Key.{Key, identity, relation}
 use Rattle.tables.specs.Office.{View}
 use Rattle.tables.proofs.Keys.{one-row}
+use Rattle.sheet.specs.Kinds.{categoryType, deedType, memberKind, containedKind, appliesKind}
 use Rattle.sheet.specs.declared.Edge.{Edge}
 use Rattle.sheet.specs.declared.Seat.{Seat}
 use Rattle.sheet.specs.Rows.{headerOf, nodeAt, edgeAt, edgeTable, nodeKeyAt, endsFit}
@@ -75,7 +76,7 @@ module _ (s : List ℕ) (acc : Accepted s) (seat : Seat) (side : Side) (d : ℕ)
       let v : nodeAt s i .variant ≡ 0 = acc .nodes .fit i h .variant (λ q. n (sym e ∙ q)) in
       cc
 
-  deed-key : (i : ℕ) → nodeAt s i .class ≡ 3 → nodeKeyAt s i ≡ deed (nodeAt s i .number) (nodeAt s i .variant)
+  deed-key : (i : ℕ) → nodeAt s i .class ≡ deedType → nodeKeyAt s i ≡ deed (nodeAt s i .number) (nodeAt s i .variant)
   deed-key i e = cc
 
   abbrev edge : ℕ → Edge
@@ -85,7 +86,7 @@ module _ (s : List ℕ) (acc : Accepted s) (seat : Seat) (side : Side) (d : ℕ)
   abbrev kindTest : ℕ → ℕ → ℕ → Bool
   kindTest r kind n = eqb kind 2 || (not (eqb r 0) && (eqb kind 1 || (eqb kind 5 || (eqb kind r && (eqb d 0 || eqb n d)))))
 
-  not-turned : (j : ℕ) → (edge j .kind ≡ 2 → ⊥) → turned (walkFor seat side d) (edge j) ≡ false
+  not-turned : (j : ℕ) → (edge j .kind ≡ containedKind → ⊥) → turned (walkFor seat side d) (edge j) ≡ false
   not-turned j n = rw (ne-eqb (edge j .kind) 2 n) (and-false (eqb (rightKind side) 4))
     where
       and-false : (b : Bool) → (b && false) ≡ false
@@ -101,7 +102,7 @@ module _ (s : List ℕ) (acc : Accepted s) (seat : Seat) (side : Side) (d : ℕ)
   turned-ends j a b t p q = (rw t at p, rw t at q)
 
   -- a row of another kind than 2 runs from its from row to its to row
-  straight : (j a b : ℕ) → (edge j .kind ≡ 2 → ⊥) → tailOf (walkFor seat side d) (edge j) ≡ a → headOf (walkFor seat side d) (edge j) ≡ b → (edge j .from ≡ a) × (edge j .to ≡ b)
+  straight : (j a b : ℕ) → (edge j .kind ≡ containedKind → ⊥) → tailOf (walkFor seat side d) (edge j) ≡ a → headOf (walkFor seat side d) (edge j) ≡ b → (edge j .from ≡ a) × (edge j .to ≡ b)
   straight j a b n p q = straight-ends j a b (not-turned j n) p q
 
   -- a ban's steps run against containment
@@ -139,7 +140,7 @@ module _ (s : List ℕ) (acc : Accepted s) (seat : Seat) (side : Side) (d : ℕ)
         → (nodeAt s (edge j .from) .class ≡ x) × (nodeAt s (edge j .to) .class ≡ y)
     classes kind x y e t = ends-are kind _ _ x y (rw e at fits) t
 
-    linked-one : edge j .kind ≡ 1 → Link a b
+    linked-one : edge j .kind ≡ memberKind → Link a b
     linked-one e =
         let m = straight j a b (λ z. omega arith) p q in
         let c = classes 1 1 2 e (or-tail (nodeAt s (edge j .from) .class) (nodeAt s (edge j .to) .class)) in
@@ -150,13 +151,13 @@ module _ (s : List ℕ) (acc : Accepted s) (seat : Seat) (side : Side) (d : ℕ)
         or-tail : (u v : ℕ) → endsFit 1 u v ≡ ((eqb u 1 && eqb v 2) || false)
         or-tail u v = refl
 
-    linked-two : edge j .kind ≡ 2 → Link a b
+    linked-two : edge j .kind ≡ containedKind → Link a b
     linked-two e = go (eqb (rightKind side) 4) refl
       where
         or-tail : (u v : ℕ) → endsFit 2 u v ≡ ((eqb u 2 && eqb v 2) || false)
         or-tail u v = refl
 
-        c : (nodeAt s (edge j .from) .class ≡ 2) × (nodeAt s (edge j .to) .class ≡ 2)
+        c : (nodeAt s (edge j .from) .class ≡ categoryType) × (nodeAt s (edge j .to) .class ≡ categoryType)
         c = classes 2 2 2 e (or-tail (nodeAt s (edge j .from) .class) (nodeAt s (edge j .to) .class))
 
         x : nodeKeyAt s (edge j .from) ≡ category (nodeAt s (edge j .from) .number)
@@ -185,7 +186,7 @@ module _ (s : List ℕ) (acc : Accepted s) (seat : Seat) (side : Side) (d : ℕ)
         or-tail grant u v = refl
         or-tail ban u v = refl
 
-    linked-five : edge j .kind ≡ 5 → Link a b
+    linked-five : edge j .kind ≡ appliesKind → Link a b
     linked-five e =
         let m = straight j a b (λ z. omega arith) p q in
         let c = classes 5 3 4 e (or-tail (nodeAt s (edge j .from) .class) (nodeAt s (edge j .to) .class)) in

@@ -37,8 +37,8 @@ unfound-unknown s any office n q p e x =
 pub missed : (n r : ℕ) → n ≤ r → not (ltb r n) ≡ true
 missed n r h = ap not (le-ltb r n h)
 
-pub met : (n r : ℕ) → r < n → not (ltb r n) ≡ false
-met n r h = ap not (lt-ltb r n h)
+pub row-met : (n r : ℕ) → r < n → not (ltb r n) ≡ false
+row-met n r h = ap not (lt-ltb r n h)
 
 -- all three rows were found
 pub all-found : (n : ℕ) (p : Places) → unfound n p ≡ 0 → (p .person < n) × (p .deed < n) × (p .folio < n)

@@ -24,14 +24,14 @@ use Rattle.meaning.proofs.Spelling.{spells, spell-long}
 use Rattle.meaning.proofs.Search.{longer}
 use Rattle.walk.specs.Arcs.{Steps}
 use Rattle.walk.proofs.Walking.{step-inside}
-use Rattle.ask.specs.Written.{nodeWords}
+use Rattle.ask.specs.PathRows.{spelledRows}
 use Rattle.ask.proofs.Links.{walkFor, Link, joins, climbs, gives-right, serves, link-of, member-arc}
-use Rattle.ask.proofs.Bridge.{Goes, lay, FromPerson, person-read, path-trail, short-leads}
+use Rattle.ask.proofs.Bridge.{Goes, rows-for, FromPerson, person-read, path-trail, short-leads}
 
-pub words-long : (s rows : List ℕ) → length (nodeWords s rows) ≡ 2 * length rows
-unfolding nodeWords
-words-long s [] = refl
-words-long s (i ∷ rows) = omega (arith, words-long s rows)
+pub spelled-long : (s rows : List ℕ) → length (spelledRows s rows) ≡ 2 * length rows
+unfolding spelledRows
+spelled-long s [] = refl
+spelled-long s (i ∷ rows) = omega (arith, spelled-long s rows)
 
 -- two identities of one type in order: their words are, whatever follows
 pair-order : (t n v n′ v′ : ℕ) (x y : Key) → belowKey (t ∷ n ∷ v ∷ []) (t ∷ n′ ∷ v′ ∷ []) ≡ true → belowKey (n′ ∷ v′ ∷ x) (n ∷ v ∷ y) ≡ false
@@ -120,11 +120,11 @@ module _ (s : List ℕ) (acc : Accepted s) (seat : Seat) (side : Side) (d : ℕ)
 
   -- ---- trails of one length, in the order of rows, are in the order of words
 
-  row-order : (x x′ : ℕ) (l l′ : List ℕ) → x′ < headerOf s .nodes → nodeAt s x .class ≡ nodeAt s x′ .class → x < x′ → belowKey (nodeWords s (x′ ∷ l′)) (nodeWords s (x ∷ l)) ≡ false
-  unfolding nodeWords
+  row-order : (x x′ : ℕ) (l l′ : List ℕ) → x′ < headerOf s .nodes → nodeAt s x .class ≡ nodeAt s x′ .class → x < x′ → belowKey (spelledRows s (x′ ∷ l′)) (spelledRows s (x ∷ l)) ≡ false
+  unfolding spelledRows
   row-order x x′ l l′ h e q =
       let b = rises (nodeKeyAt s) (headerOf s .nodes) (acc .nodes .rise) x x′ q h in
-      pair-order (nodeAt s x′ .class) (nodeAt s x .number) (nodeAt s x .variant) (nodeAt s x′ .number) (nodeAt s x′ .variant) (nodeWords s l′) (nodeWords s l)
+      pair-order (nodeAt s x′ .class) (nodeAt s x .number) (nodeAt s x .variant) (nodeAt s x′ .number) (nodeAt s x′ .variant) (spelledRows s l′) (spelledRows s l)
       (subst (λ (c : ℕ). belowKey (c ∷ nodeAt s x .number ∷ nodeAt s x .variant ∷ []) (nodeKeyAt s x′) ≡ true) e b)
 
   some-nodes : {y : ℕ} {m : List ℕ} → Trail Arcs Goal y m → 1 ≤ length m
@@ -132,8 +132,8 @@ module _ (s : List ℕ) (acc : Accepted s) (seat : Seat) (side : Side) (d : ℕ)
   some-nodes (goes st w) = omega arith
 
   pub words-order : (x x′ : ℕ) (l l′ : List ℕ) → x′ < headerOf s .nodes → nodeAt s x .class ≡ nodeAt s x′ .class → Trail Arcs Goal x l → Trail Arcs Goal x′ l′ → length l ≡ length l′ → Before l l′
-      → belowKey (nodeWords s l′) (nodeWords s l) ≡ false
-  unfolding nodeWords
+      → belowKey (spelledRows s l′) (spelledRows s l) ≡ false
+  unfolding spelledRows
   words-order x x′ l l′ h e (ends t) (ends t′) n (less q) = row-order x x′ [] [] h e q
   words-order x x′ l l′ h e (ends t) (ends t′) n (same q) = same-pair (nodeAt s x .number) (nodeAt s x .variant) [] [] refl
   words-order x x′ l l′ h e (ends t) (goes st w) n b = absurd (omega (arith, some-nodes w, n))
@@ -141,7 +141,7 @@ module _ (s : List ℕ) (acc : Accepted s) (seat : Seat) (side : Side) (d : ℕ)
   words-order x x′ l l′ h e (goes {l = m} st w) (goes {l = m′} st′ w′) n (less q) = row-order x x′ m m′ h e q
   words-order x x′ l l′ h e (goes {b = y} {l = m} st w) (goes {b = y′} {l = m′} st′ w′) n (same q) =
       let z : length m ≡ length m′ = omega arith in
-      same-pair (nodeAt s x .number) (nodeAt s x .variant) (nodeWords s m′) (nodeWords s m)
+      same-pair (nodeAt s x .number) (nodeAt s x .variant) (spelledRows s m′) (spelledRows s m)
       (words-order y y′ m m′ (step-inside s (edgeTable s) (headerOf s) (walkFor seat side d) acc _ y′ st′ .1)
       (typed _ y m st w ∙ ap typeFor z ∙ sym (typed _ y′ m′ st′ w′)) w w′ z q)
 
@@ -154,7 +154,7 @@ module _ (s : List ℕ) (acc : Accepted s) (seat : Seat) (side : Side) (d : ℕ)
     -- as many nodes as categories, and three
     long : length rows ≡ 4 + length (read .categories)
     long =
-        let a = words-long s rows in
+        let a = spelled-long s rows in
         let b = ap length (read .words) in
         let c = spell-long p (read .start ∷ read .categories) d (read .variant) f in
         omega arith
@@ -163,36 +163,36 @@ module _ (s : List ℕ) (acc : Accepted s) (seat : Seat) (side : Side) (d : ℕ)
     unfolding spell
     fewest cs v w =
         let a = member-arc s acc seat side d x p (read .start) h is-person (read .assigned) in
-        let r = lay s acc seat side d some rf f inside is-folio (read .start) cs v (a .row) w (a .inside) (a .names) in
+        let r = rows-for s acc seat side d some rf f inside is-folio (read .start) cs v (a .row) w (a .inside) (a .names) in
         let q = best .short (x ∷ r .rows) (goes (a .arc) (r .trail)) in
         let l = long in
-        let m = words-long s (r .rows) in
+        let m = spelled-long s (r .rows) in
         let n = ap length (r .words) in
         let o = spell-long 0 cs d v f in
         omega arith
 
-    pub holds : isPath g side p d f (nodeWords s rows) ≡ true
+    pub holds : isPath g side p d f (spelledRows s rows) ≡ true
     unfolding path
     holds =
         subst (λ (ws : List ℕ). isPath g side p d f ws ≡ true) (sym (read .words))
         (spells g side p d f (read .start ∷ read .categories) (read .variant)
         (both (read .assigned) (short-leads s acc seat side d some rf f inside is-folio (read .start) (read .categories) (read .variant) (read .walks) fewest)))
 
-    no-earlier : (rows′ : List ℕ) → Trail Arcs Goal x rows′ → fewer (nodeWords s rows′) (nodeWords s rows) ≡ false
+    no-earlier : (rows′ : List ℕ) → Trail Arcs Goal x rows′ → fewer (spelledRows s rows′) (spelledRows s rows) ≡ false
     no-earlier rows′ t = go (decLt (length rows) (length rows′))
       where
-        go : Dec (length rows < length rows′) → fewer (nodeWords s rows′) (nodeWords s rows) ≡ false
-        go (yes l) = longer (nodeWords s rows′) (nodeWords s rows) (omega (arith, words-long s rows, words-long s rows′))
+        go : Dec (length rows < length rows′) → fewer (spelledRows s rows′) (spelledRows s rows) ≡ false
+        go (yes l) = longer (spelledRows s rows′) (spelledRows s rows) (omega (arith, spelled-long s rows, spelled-long s rows′))
         go (no l) =
             let q = best .short rows′ t in
             let e : length rows′ ≡ length rows = omega arith in
-            let m : length (nodeWords s rows′) ≡ length (nodeWords s rows) = omega (arith, words-long s rows, words-long s rows′) in
-            rw (le-ltb (length (nodeWords s rows′)) (length (nodeWords s rows)) (omega arith), eq-eqb (length (nodeWords s rows′)) (length (nodeWords s rows)) m)
+            let m : length (spelledRows s rows′) ≡ length (spelledRows s rows) = omega (arith, spelled-long s rows, spelled-long s rows′) in
+            rw (le-ltb (length (spelledRows s rows′)) (length (spelledRows s rows)) (omega arith), eq-eqb (length (spelledRows s rows′)) (length (spelledRows s rows)) m)
             (words-order x x rows rows′ h refl (best .leads) t (sym e) (best .first rows′ t e))
 
-    pub witness : WitnessIs g side p d f (nodeWords s rows)
+    pub witness : WitnessIs g side p d f (spelledRows s rows)
     witness =
         record {
           holds = holds;
-          first = λ ys q. let r = path-trail s acc seat side d some rf f inside is-folio x p ys h is-person q in subst (λ (ws : List ℕ). fewer ws (nodeWords s rows) ≡ false) (r .words) (no-earlier (r .rows) (r .trail));
+          first = λ ys q. let r = path-trail s acc seat side d some rf f inside is-folio x p ys h is-person q in subst (λ (ws : List ℕ). fewer ws (spelledRows s rows) ≡ false) (r .words) (no-earlier (r .rows) (r .trail));
         }

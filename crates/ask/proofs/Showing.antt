@@ -12,7 +12,7 @@ use Rattle.sheet.specs.Limits.{maxNodes}
 use Rattle.sheet.specs.Rows.{nodeAt, edgeTable}
 use Rattle.sheet.specs.Accepted.{WellFormed}
 use Rattle.sheet.specs.Seats.{seenFrom}
-use Rattle.paths.specs.Steps.{Layers, Starts}
+use Rattle.paths.specs.Reached.{Layers, Starts}
 use Rattle.paths.specs.Best.{Trail, ends, goes, Best, Traced}
 use Rattle.paths.proofs.Distances.{started, starts, layers-map}
 use Rattle.paths.proofs.Bounds.{number-bound}
@@ -26,25 +26,25 @@ use Rattle.question.specs.declared.Question.{Question}
 use Rattle.question.specs.Asked.{sideOf}
 use Rattle.ask.specs.Placed.{Placed}
 use Rattle.question.specs.Checked.{AtSeat}
-use Rattle.ask.specs.Written.{nodeWords, RowsIn, Measured, PathRows}
+use Rattle.ask.specs.PathRows.{spelledRows, RowsIn, WalkedBack, PathRows}
 use Rattle.ask.proofs.Links.{walkFor}
-use Rattle.ask.proofs.Shortest.{witness, words-long}
+use Rattle.ask.proofs.Shortest.{witness, spelled-long}
 use Rattle.sheet.proofs.Forming.{words-of}
 use Rattle.ask.proofs.Deciding.{back-layers, path-reached}
 
 -- the two words that stand next
-pub nodes-next : (s rows : List ℕ) (i : ℕ) → i < length rows → take 2 (drop (2 * i) (nodeWords s rows)) ≡ nodeAt s (getD rows i 0) .number ∷ nodeAt s (getD rows i 0) .variant ∷ []
-unfolding nodeWords
+pub nodes-next : (s rows : List ℕ) (i : ℕ) → i < length rows → take 2 (drop (2 * i) (spelledRows s rows)) ≡ nodeAt s (getD rows i 0) .number ∷ nodeAt s (getD rows i 0) .variant ∷ []
+unfolding spelledRows
 nodes-next s [] i h = absurd (omega (arith, h))
 nodes-next s (r ∷ rows) zero h = refl
 nodes-next s (r ∷ rows) (suc i) h = let e : 2 * suc i ≡ suc (suc (2 * i)) = omega arith in rw e (nodes-next s rows i (omega (arith, h)))
 
 -- the words of the first n rows
-pub first-long : (s rows : List ℕ) (n : ℕ) → n ≤ length rows → length (nodeWords s (take n rows)) ≡ 2 * n
-first-long s rows n h = words-long s (take n rows) ∙ ap (λ (x : ℕ). 2 * x) (length-take-le n rows h)
+pub first-long : (s rows : List ℕ) (n : ℕ) → n ≤ length rows → length (spelledRows s (take n rows)) ≡ 2 * n
+first-long s rows n h = spelled-long s (take n rows) ∙ ap (λ (x : ℕ). 2 * x) (length-take-le n rows h)
 
 pub first-next : (s rows : List ℕ) (n i : ℕ) → n ≤ length rows → i < n
-    → take 2 (drop (2 * i) (nodeWords s (take n rows))) ≡ nodeAt s (getD rows i 0) .number ∷ nodeAt s (getD rows i 0) .variant ∷ []
+    → take 2 (drop (2 * i) (spelledRows s (take n rows))) ≡ nodeAt s (getD rows i 0) .number ∷ nodeAt s (getD rows i 0) .variant ∷ []
 first-next s rows n i h l =
     let m = length-take-le n rows h in
     let e = getD-take n rows i 0 l in
@@ -82,7 +82,7 @@ module _ (s t : List ℕ) (h : Header) (f : WellFormed s t h) (seat : Seat) (sid
   pub record Shown (rows : List ℕ) (r : ℕ) : Type 0 where
     pub size : r ≡ getD dist rp 0
     pub inside : RowsIn (h .nodes) rows r
-    pub is : WitnessIs (seenFrom s seat) side (q .person) (q .deed) (q .folio) (nodeWords s (take r rows))
+    pub is : WitnessIs (seenFrom s seat) side (q .person) (q .deed) (q .folio) (spelledRows s (take r rows))
 
   pub shown : (rows₀ rows : List ℕ) (r : ℕ) → Traced (Steps s t (walkFor seat side (q .deed)) (h .edges)) (Starts dist) rp rows₀ rows r → Shown rows r
   shown rows₀ rows r tr =
@@ -96,22 +96,22 @@ module _ (s t : List ℕ) (h : Header) (f : WellFormed s t h) (seat : Seat) (sid
         inside = λ i l. let e = getD-take r rows i 0 l in
             subst (λ (x : ℕ). x < h .nodes) (ap (λ (x : List ℕ). getD x i 0) (sym front) ∙ e)
             (trail-inside s t h (walkFor seat side (q .deed)) (Starts dist) f (tr .best .leads) (subst (λ (x : Header). rp < x .nodes) (sym (f .head)) (pl .person-in)) i (let z = tr .size in omega arith));
-        is = subst (λ (x : List ℕ). WitnessIs (seenFrom s seat) side (q .person) (q .deed) (q .folio) (nodeWords s x)) (sym front)
+        is = subst (λ (x : List ℕ). WitnessIs (seenFrom s seat) side (q .person) (q .deed) (q .folio) (spelledRows s x)) (sym front)
             (witness s acc seat side (q .deed) (pl .deed-some) rf (q .folio) (pl .folio-in) (pl .folio-is) rp (q .person) (pl .person-in) (pl .person-is) (tr .trail) best);
       }
 
 -- ---- as the code has it: numbers measured from a seat
 
 pub measured-so : (s t : List ℕ) (h : Header) (seat : Seat) (q : Question) (rf : ℕ) (w : Walk) → w ≡ walkOf seat (rightKind (sideOf (q .kind))) (q .deed)
-    → (d : List ℕ) → (length d ≡ maxNodes) × Layers (Steps s t (reversed w) (h .edges)) (λ x. x ≡ rf) d → Measured s t h seat q rf d
+    → (d : List ℕ) → (length d ≡ maxNodes) × Layers (Steps s t (reversed w) (h .edges)) (λ x. x ≡ rf) d → WalkedBack s t h seat q rf d
 measured-so s t h seat q rf w is d m = record { long = m .0; layers = subst (λ (x : Walk). Layers (Steps s t (reversed x) (h .edges)) (λ y. y ≡ rf) d) is (m .1) }
 
 -- a row without a number has no witness
-pub no-witness : (s t : List ℕ) (h : Header) (seat : Seat) → AtSeat s t h seat → (q : Question) (rp rf : ℕ) → Placed s q rp rf → (d : List ℕ) → Measured s t h seat q rf d → getD d rp 0 ≡ 0
+pub no-witness : (s t : List ℕ) (h : Header) (seat : Seat) → AtSeat s t h seat → (q : Question) (rp rf : ℕ) → Placed s q rp rf → (d : List ℕ) → WalkedBack s t h seat q rf d → getD d rp 0 ≡ 0
     → (ws : List ℕ) → WitnessIs (seenFrom s seat) (sideOf (q .kind)) (q .person) (q .deed) (q .folio) ws → ⊥
 no-witness s t h seat at q rp rf pl d me z ws x = path-reached s t h (at .formed) seat (sideOf (q .kind)) q rp rf pl d (me .layers) (record { words = ws; is = x .holds }) z
 
-module _ (s t : List ℕ) (h : Header) (seat : Seat) (at : AtSeat s t h seat) (q : Question) (rp rf : ℕ) (pl : Placed s q rp rf) (d : List ℕ) (me : Measured s t h seat q rf d)
+module _ (s t : List ℕ) (h : Header) (seat : Seat) (at : AtSeat s t h seat) (q : Question) (rp rf : ℕ) (pl : Placed s q rp rf) (d : List ℕ) (me : WalkedBack s t h seat q rf d)
     (w : Walk) (is : w ≡ walkOf seat (rightKind (sideOf (q .kind))) (q .deed)) where
   pub trace-ready : Ready s t h w d
   trace-ready =

@@ -6,7 +6,7 @@ use mathlib.Core.List.{List}
 use Rattle.sheet.specs.declared.Refusal.{Refusal}
 use Rattle.sheet.specs.Rows.{headerOf}
 use Rattle.sheet.specs.Named.{seenAt}
-use Rattle.meaning.specs.Answers.{AnswerIs, JointIs}
+use Rattle.meaning.specs.Answers.{AnswerIs, JointAnswerIs}
 use Rattle.meaning.specs.Questions.{WitnessIs}
 use Rattle.question.specs.declared.Question.{Question}
 use Rattle.question.specs.declared.Answer.{Answer}
@@ -19,7 +19,7 @@ AnswersAtOffice after s q a = Replies (after (askFault s q)) (λ value count. An
 
 -- question 2: the joint answer, and the deciding office
 abbrev pub AnswersJointly : (ℕ → Refusal) → List ℕ → Question → Answer → Type 0
-AnswersJointly after s q a = Replies (after (jointFault s q)) (λ value count. JointIs (seenAt s) (headerOf s .offices) (q .rule) (q .person) (q .deed) (q .folio) (record { answer = value; office = count })) a
+AnswersJointly after s q a = Replies (after (jointFault s q)) (λ value count. JointAnswerIs (seenAt s) (headerOf s .offices) (q .rule) (q .person) (q .deed) (q .folio) (record { answer = value; office = count })) a
 
 -- question 3: the words of the witness of a grant or a ban
 abbrev pub WitnessOf : List ℕ → Question → List ℕ → Type 0

@@ -20,10 +20,10 @@ ghost use Rattle.sheet.specs.Rows.{headerOf};
 ghost use Rattle.sheet.specs.Accepted.{NodesFormed, WellFormed, Accepted};
 ghost use Rattle.sheet.specs.Named.{seenAt};
 ghost use Rattle.sheet.specs.Seats.{Seated, seenFrom};
-ghost use Rattle.paths.specs.Steps.{Layers};
+ghost use Rattle.paths.specs.Reached.{Layers};
 ghost use Rattle.walk.specs.Arcs.{Steps, walkOf, reversed};
 ghost use Rattle.meaning.specs.Paths.{rightKind, HasPath};
-ghost use Rattle.meaning.specs.Answers.{Says, answered, AnswerIs, lowest, undetermined, jointly, JointIs};
+ghost use Rattle.meaning.specs.Answers.{Says, answered, AnswerIs, lowest, undetermined, jointly, JointAnswerIs};
 ghost use Rattle.meaning.specs.Questions.{WitnessIs};
 ghost use Rattle.question.specs.Asked.{asked, FirstStanding, askFault, jointFault, plain, afterSheet, sideOf};
 ghost use Rattle.question.specs.Replies.{Replies, Shows};
@@ -31,7 +31,7 @@ ghost use Rattle.question.specs.Checked.{AtSeat};
 ghost use Rattle.ask.specs.Placed.{Placed, FoundAll, unfound, StandsSo};
 ghost use Rattle.ask.specs.Promises.{AnswersAtOffice, AnswersJointly, Witnesses};
 ghost use Rattle.ask.specs.Passing.{passing, telling};
-ghost use Rattle.ask.specs.Written.{nodeWords, RowsIn, Measured, PathRows};
+ghost use Rattle.ask.specs.PathRows.{spelledRows, RowsIn, WalkedBack, PathRows};
 
 // The answers at an office, and the joint rules. meaning's specs/Answers.antt has the same numbers for the proofs.
 const UNDETERMINED: u32 = 0;
@@ -321,7 +321,7 @@ fn joint_of(rs: [u32; OFFICES], n: u32, rule: u32) -> Answer
 // Question 2 on a sheet that was checked.
 fn joint_checked(sheet: &[u32], edges: &[u32], h: Header, q: Question) -> Answer
     requires { ⌜ WellFormed (now sheet) (now edges) h ⌝ }
-    ensures { λ a. ⌜ Replies (plain (jointFault (now (sheet .entry)) q)) (λ value count. JointIs (seenAt (now (sheet .entry))) (headerOf (now (sheet .entry)) .offices) (q .rule) (q .person) (q .deed) (q .folio) (record { answer = value; office = count })) a ⌝ }
+    ensures { λ a. ⌜ Replies (plain (jointFault (now (sheet .entry)) q)) (λ value count. JointAnswerIs (seenAt (now (sheet .entry))) (headerOf (now (sheet .entry)) .offices) (q .rule) (q .person) (q .deed) (q .folio) (record { answer = value; office = count })) a ⌝ }
 {
     if (q.rule < GRANT_FIRST) | (FIRST_APPLICABLE < q.rule) {
         return question::refused_by(27);
@@ -349,7 +349,7 @@ pub fn joint_answer(sheet: &[u32], q: Question) -> Answer
 // Writes the two words of each of the first n rows that are named, number and variant.
 fn write_nodes(sheet: &[u32], h: Header, rows: [u32; ROWS], n: usize, out: &mut [u32])
     requires { ⌜ NodesFormed (now sheet) h × RowsIn (h .nodes) rows n × (n ≤ length rows) × (2 * n ≤ length (now out)) ⌝ }
-    ensures { λ _. ⌜ now (out .exit) ≡ nodeWords (now (sheet .entry)) (take n rows) ++ drop (2 * n) (now (out .entry)) ⌝ }
+    ensures { λ _. ⌜ now (out .exit) ≡ spelledRows (now (sheet .entry)) (take n rows) ++ drop (2 * n) (now (out .entry)) ⌝ }
 {
     let mut i: usize = 0;
     while i < n {
@@ -371,7 +371,7 @@ fn path_rows(
     rp: u32,
     rf: u32,
 ) -> [u32; ROWS]
-    requires { ⌜ AtSeat (now sheet) (now edges) h seat × Placed (now sheet) q rp rf × Measured (now sheet) (now edges) h seat q rf d × (0 < getD d rp 0) ⌝ }
+    requires { ⌜ AtSeat (now sheet) (now edges) h seat × Placed (now sheet) q rp rf × WalkedBack (now sheet) (now edges) h seat q rf d × (0 < getD d rp 0) ⌝ }
     ensures { λ r. ⌜ PathRows (now (sheet .entry)) (h .nodes) seat q (getD d rp 0) r ⌝ }
 {
     let mut rows = [0u32; ROWS];

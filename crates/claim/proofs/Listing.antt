@@ -60,9 +60,9 @@ module _ (s t : List ℕ) (h : Header) (seat : Seat) (o : AtSeat s t h seat) (ki
       joined : {i i′ : ℕ} {x x′ y y′ : Key} → i ≡ i′ → x ≡ x′ → y ≡ y′ → relation i x y ≡ relation i′ x′ y′
       joined e f g = rw (e, f, g) refl
 
-  seen-row : seen ≡ true → (j : ℕ) × (j < headerOf s .edges) × (rowOf s (edgeTable s) seat kind a b j ≡ true)
+  related-row : seen ≡ true → (j : ℕ) × (j < headerOf s .edges) × (rowOf s (edgeTable s) seat kind a b j ≡ true)
   unfolding rowOf edgeRow
-  seen-row e =
+  related-row e =
       let r = edge-seen s acc (seat .office) _ e in
       let u : edgeAt (edgeTable s) (r .row) .kind ≡ kind = cc (r .names) in
       let x : nodeKeyAt s (edgeAt (edgeTable s) (r .row) .from) ≡ nodeKey a = cc (r .names) in
@@ -78,7 +78,7 @@ module _ (s t : List ℕ) (h : Header) (seat : Seat) (o : AtSeat s t h seat) (ki
       go : (x : Bool) → seen ≡ x → false ≡ seen
       go false e = sym e
       go true e =
-          let r = seen-row e in
+          let r = related-row e in
           absurd (false≢true (sym (n (r .0) (subst (λ (x : Header). r .0 < x .edges) (sym (o .formed .head)) (r .1))) ∙ own-row (r .0) ∙ r .2))
 
 -- ---- the test that the code makes at a row
@@ -176,9 +176,9 @@ and-assoc : (a b c : Bool) → (a && (b && c)) ≡ ((a && b) && c)
 and-assoc true b c = refl
 and-assoc false b c = refl
 
-and-true : (a : Bool) → (a && true) ≡ a
-and-true true = refl
-and-true false = refl
+and-with-true : (a : Bool) → (a && true) ≡ a
+and-with-true true = refl
+and-with-true false = refl
 
 and-swap : (a b : Bool) → (a && b) ≡ (b && a)
 and-swap true true = refl
@@ -200,7 +200,7 @@ rest-same zero zero [] d f q e = absurd (omega (arith, e))
 rest-same zero zero (a ∷ []) d f q e = absurd (omega (arith, e))
 rest-same zero zero (a ∷ b ∷ []) d f q e = absurd (omega (arith, e))
 rest-same zero zero (a ∷ b ∷ c ∷ []) d f q e = absurd (omega (arith, e))
-rest-same zero zero (a ∷ b ∷ c ∷ z ∷ []) d f q e = rw (eq-eqb b b refl, and-true (eqb z 0)) refl
+rest-same zero zero (a ∷ b ∷ c ∷ z ∷ []) d f q e = rw (eq-eqb b b refl, and-with-true (eqb z 0)) refl
 rest-same zero zero (a ∷ b ∷ c ∷ z ∷ x ∷ ws) d f q e = absurd (omega (arith, e))
 rest-same (suc m) zero ws d f q e = absurd (omega (arith, q))
 rest-same (suc m) (suc zero) ws d f q e = absurd (omega (arith, q))
@@ -273,7 +273,7 @@ module _ (g : View) (side : Side) (ws : List ℕ) (at m : ℕ) where
   goes-again e = sym (goes-by true e ∙ and-swap (step g side (getD ws at 0) (getD ws (at + 2) 0)) false)
 
   pub goes-new : (r : Bool) → hasSecond ws (getD ws at 0) true (at + 2) m ≡ false → r ≡ step g side (getD ws at 0) (getD ws (at + 2) 0) → r ≡ goesOn g side ws at m
-  goes-new r e q = q ∙ sym (goes-by false e ∙ and-true (step g side (getD ws at 0) (getD ws (at + 2) 0)))
+  goes-new r e q = q ∙ sym (goes-by false e ∙ and-with-true (step g side (getD ws at 0) (getD ws (at + 2) 0)))
 
 module _ (g : View) (side : Side) (d v f : ℕ) (ws : List ℕ) where
   pub way-end : (at : ℕ) → wayFrom g side d v f ws at 0 ≡ carries g side d v f (getD ws at 0)
@@ -346,29 +346,29 @@ long-room n e =
     (a, omega arith, omega arith)
 
 module _ (g : View) (side : Side) (p d f : ℕ) (ws : List ℕ) (m : ℕ) (l : length ws ≡ 8 + 2 * m) where
-  abbrev plain : Bool
-  plain = plainFrom ws 3 (m + 1)
+  abbrev plainEnds : Bool
+  plainEnds = plainFrom ws 3 (m + 1)
 
   abbrev assigned : Bool
   assigned = member g p (getD ws 2 0)
 
-  abbrev onward : Bool
-  onward = wayFrom g side d (getD ws (5 + 2 * m) 0) f ws 2 m
+  abbrev leadsOn : Bool
+  leadsOn = wayFrom g side d (getD ws (5 + 2 * m) 0) f ws 2 m
 
-  law : isPath g side p d f ws ≡ ((framed ws m p d f && plain) && (assigned && onward))
+  law : isPath g side p d f ws ≡ ((framed ws m p d f && plainEnds) && (assigned && leadsOn))
   law = let e : m + 1 ≡ suc m = omega arith in rw e (path-law g side p d f ws m l)
 
   pub not-framed : framed ws m p d f ≡ false → false ≡ isPath g side p d f ws
-  not-framed e = sym (law ∙ ap (λ (b : Bool). (b && plain) && (assigned && onward)) e)
+  not-framed e = sym (law ∙ ap (λ (b : Bool). (b && plainEnds) && (assigned && leadsOn)) e)
 
-  pub not-plain : plain ≡ false → false ≡ isPath g side p d f ws
-  not-plain e = sym (law ∙ ap (λ (b : Bool). (framed ws m p d f && b) && (assigned && onward)) e ∙ ap (λ (b : Bool). b && (assigned && onward)) (and-swap (framed ws m p d f) false))
+  pub not-plain : plainEnds ≡ false → false ≡ isPath g side p d f ws
+  not-plain e = sym (law ∙ ap (λ (b : Bool). (framed ws m p d f && b) && (assigned && leadsOn)) e ∙ ap (λ (b : Bool). b && (assigned && leadsOn)) (and-swap (framed ws m p d f) false))
 
   pub not-assigned : assigned ≡ false → false ≡ isPath g side p d f ws
-  not-assigned e = sym (law ∙ ap (λ (b : Bool). (framed ws m p d f && plain) && (b && onward)) e ∙ and-swap (framed ws m p d f && plain) false)
+  not-assigned e = sym (law ∙ ap (λ (b : Bool). (framed ws m p d f && plainEnds) && (b && leadsOn)) e ∙ and-swap (framed ws m p d f && plainEnds) false)
 
-  pub all-passed : (r : Bool) → framed ws m p d f ≡ true → plain ≡ true → assigned ≡ true → r ≡ onward → r ≡ isPath g side p d f ws
-  all-passed r a b c q = q ∙ sym (law ∙ ap (λ (x : Bool). x && (assigned && onward)) (both a b) ∙ ap (λ (x : Bool). x && onward) c)
+  pub all-passed : (r : Bool) → framed ws m p d f ≡ true → plainEnds ≡ true → assigned ≡ true → r ≡ leadsOn → r ≡ isPath g side p d f ws
+  all-passed r a b c q = q ∙ sym (law ∙ ap (λ (x : Bool). x && (assigned && leadsOn)) (both a b) ∙ ap (λ (x : Bool). x && leadsOn) c)
 
 -- ---- the reply
 

@@ -16,7 +16,7 @@ use Rattle.combine.specs.declared.Part.{Part}
 use Rattle.combine.specs.declared.Rule.{Rule}
 use Rattle.combine.specs.Combined.{Making, keys, IsTable, Combined, rowsKept}
 use Rattle.combine.specs.Rules.{makes, Sound}
-use Rattle.combine.specs.Parts.{Inputs, PartIs}
+use Rattle.combine.specs.SheetTables.{Inputs, PartIs}
 use Rattle.combine.proofs.Combining.{combination}
 use Rattle.combine.proofs.Reading.{part-low, part-named}
 

@@ -15,7 +15,7 @@ use Rattle.tables.proofs.Counts.{many-next, many-rises, has-row, has-not}
 use Rattle.tables.proofs.Keys.{Lies, lower, equal, higher, lies, same-or, below-irrefl, below-asym, below-trans, below-apart, rises, one-row}
 use Rattle.tables.proofs.Tables.{RowAt, marks-none, marks-named, row-of, rows-alike, marks-more, marks-still}
 use Rattle.sheet.specs.Found.{PlaceIs}
-use Rattle.combine.specs.Combined.{Making, keys, IsTable, Combined, firstStays, secondStays, rowsKept, Side, takes, leaves, Stepped, given, Walked, Put, drops, stays, Places}
+use Rattle.combine.specs.Combined.{Making, keys, IsTable, Combined, firstStays, secondStays, rowsKept, TableStep, takes, leaves, Stepped, given, Walked, Put, drops, stays, PlacesIn}
 
 pub given-taken : (f : ℕ → Row) (from to : ℕ) → from < to → given f from to ≡ f from .marks
 unfolding given
@@ -27,11 +27,11 @@ given-left f from to l = rw (le-ltb from to l) refl
 
 -- ---- one side of a step
 
-module _ (n : ℕ) (f : ℕ → Row) (T : IsTable n f) (i : ℕ) (key : Key) (next : ℕ) (S : Side n (keys f) i key next) where
+module _ (n : ℕ) (f : ℕ → Row) (T : IsTable n f) (i : ℕ) (key : Key) (next : ℕ) (S : TableStep n (keys f) i key next) where
   pub side-in : i ≤ n → next ≤ n
   side-in l = go S
     where
-      go : Side n (keys f) i key next → next ≤ n
+      go : TableStep n (keys f) i key next → next ≤ n
       go (takes a e z) = omega arith
       go (leaves a z) = omega arith
 
@@ -39,7 +39,7 @@ module _ (n : ℕ) (f : ℕ → Row) (T : IsTable n f) (i : ℕ) (key : Key) (ne
   pub side-inside : i < next → i < n
   side-inside l = go S
     where
-      go : Side n (keys f) i key next → i < n
+      go : TableStep n (keys f) i key next → i < n
       go (takes a e z) = a
       go (leaves a z) = absurd (omega arith)
 
@@ -47,7 +47,7 @@ module _ (n : ℕ) (f : ℕ → Row) (T : IsTable n f) (i : ℕ) (key : Key) (ne
   side-after : next < n → belowKey key (f next .key) ≡ true
   side-after l = go S
     where
-      go : Side n (keys f) i key next → belowKey key (f next .key) ≡ true
+      go : TableStep n (keys f) i key next → belowKey key (f next .key) ≡ true
       go (takes a e z) = subst (λ (x : Key). belowKey x (f next .key) ≡ true) e (rises (keys f) n (T .up) i next (omega arith) l)
       go (leaves a z) = let q : i ≡ next = omega arith in subst (λ (x : ℕ). belowKey key (f x .key) ≡ true) q (a (omega arith))
 
@@ -56,7 +56,7 @@ module _ (n : ℕ) (f : ℕ → Row) (T : IsTable n f) (i : ℕ) (key : Key) (ne
     side-before : (z : Key) → belowKey key z ≡ true → (x : ℕ) → x < next → belowKey (f x .key) z ≡ true
     side-before z u x l = go S (decLt x i)
       where
-        go : Side n (keys f) i key next → Dec (x < i) → belowKey (f x .key) z ≡ true
+        go : TableStep n (keys f) i key next → Dec (x < i) → belowKey (f x .key) z ≡ true
         go s (yes d) = below-trans (f x .key) key z (passed x d) u
         go (takes a e q) (no d) = let p : i ≡ x = omega arith in subst (λ (y : Key). belowKey y z ≡ true) (sym e ∙ ap (keys f) p) u
         go (leaves a q) (no d) = absurd (omega arith)
@@ -78,21 +78,21 @@ module _ (n : ℕ) (f : ℕ → Row) (T : IsTable n f) (i : ℕ) (key : Key) (ne
     pub side-marks : given f i next ≡ marksAt (rowsOf n f) key
     side-marks = go S
       where
-        go : Side n (keys f) i key next → given f i next ≡ marksAt (rowsOf n f) key
+        go : TableStep n (keys f) i key next → given f i next ≡ marksAt (rowsOf n f) key
         go (takes a e z) = given-taken f i next (omega arith) ∙ sym (marks-named n f (one-row (keys f) n (T .up)) key i a e)
         go (leaves a z) = given-left f i next (omega arith) ∙ sym (marks-none n f key (not-there a))
 
     side-here : marksAt (rowsOf next f) key ≡ given f i next
     side-here = go S
       where
-        go : Side n (keys f) i key next → marksAt (rowsOf next f) key ≡ given f i next
+        go : TableStep n (keys f) i key next → marksAt (rowsOf next f) key ≡ given f i next
         go (takes a e z) = ap (λ (x : ℕ). marksAt (rowsOf x f) key) z ∙ marks-more i f key e ∙ omega (arith, side-new, given-taken f i next (omega arith))
         go (leaves a z) = ap (λ (x : ℕ). marksAt (rowsOf x f) key) z ∙ omega (arith, side-new, given-left f i next (omega arith))
 
     side-else : (k : Key) → (key ≡ k → ⊥) → marksAt (rowsOf next f) k ≡ marksAt (rowsOf i f) k
     side-else k apart = go S
       where
-        go : Side n (keys f) i key next → marksAt (rowsOf next f) k ≡ marksAt (rowsOf i f) k
+        go : TableStep n (keys f) i key next → marksAt (rowsOf next f) k ≡ marksAt (rowsOf i f) k
         go (takes a e z) = ap (λ (x : ℕ). marksAt (rowsOf x f) k) z ∙ marks-still i f k (λ q. apart (sym e ∙ q))
         go (leaves a z) = ap (λ (x : ℕ). marksAt (rowsOf x f) k) z
 
@@ -162,24 +162,24 @@ module _ (m : ℕ) (key : Key) (k : ℕ) (h : ℕ → Row) (k′ : ℕ) (h′ : 
           bears u l (no d) = let w : u ≡ k = omega arith in rw (w, r) z
 
 -- a row can always be put
-abbrev pub behind : ℕ → (ℕ → Row) → Row → ℕ → Row
-behind k h r u = cond (ltb u k) (h u) r
+abbrev pub rowBehind : ℕ → (ℕ → Row) → Row → ℕ → Row
+rowBehind k h r u = cond (ltb u k) (h u) r
 
-pub putting : (m : ℕ) (key : Key) (k : ℕ) (h : ℕ → Row) → Put m key k h (k + numberOf (ltb 0 m)) (behind k h (record { key = key; marks = m }))
+pub putting : (m : ℕ) (key : Key) (k : ℕ) (h : ℕ → Row) → Put m key k h (k + numberOf (ltb 0 m)) (rowBehind k h (record { key = key; marks = m }))
 putting m key k h = go (decLt 0 m)
   where
     r : Row
     r = record { key = key; marks = m }
 
-    kept : (r : Row) (u : ℕ) → u < k → behind k h r u ≡ h u
+    kept : (r : Row) (u : ℕ) → u < k → rowBehind k h r u ≡ h u
     kept r u l = ap (λ (b : Bool). cond b (h u) r) (lt-ltb u k l)
 
-    go : Dec (0 < m) → Put m key k h (k + numberOf (ltb 0 m)) (behind k h (record { key = key; marks = m }))
+    go : Dec (0 < m) → Put m key k h (k + numberOf (ltb 0 m)) (rowBehind k h (record { key = key; marks = m }))
     go (yes l) = stays l (ap (λ (b : Bool). k + numberOf b) (lt-ltb 0 m l)) (kept r) (ap (λ (b : Bool). cond b (h k) r) (le-ltb k k (omega arith)))
     go (no l) = let z : k + 0 ≡ k = omega arith in drops (omega arith) (ap (λ (b : Bool). k + numberOf b) (le-ltb 0 m (omega arith)) ∙ z) (kept r)
 
-pub putting-as : (m m′ : ℕ) (key : Key) (k : ℕ) (h : ℕ → Row) (k′ : ℕ) → m ≡ m′ → k′ ≡ k + numberOf (ltb 0 m) → Put m′ key k h k′ (behind k h (record { key = key; marks = m }))
-putting-as m m′ key k h k′ e c = subst (λ (x : ℕ). Put x key k h k′ (behind k h (record { key = key; marks = m }))) e (subst (λ (x : ℕ). Put m key k h x (behind k h (record { key = key; marks = m }))) (sym c) (putting m key k h))
+pub putting-as : (m m′ : ℕ) (key : Key) (k : ℕ) (h : ℕ → Row) (k′ : ℕ) → m ≡ m′ → k′ ≡ k + numberOf (ltb 0 m) → Put m′ key k h k′ (rowBehind k h (record { key = key; marks = m }))
+putting-as m m′ key k h k′ e c = subst (λ (x : ℕ). Put x key k h k′ (rowBehind k h (record { key = key; marks = m }))) e (subst (λ (x : ℕ). Put m key k h x (rowBehind k h (record { key = key; marks = m }))) (sym c) (putting m key k h))
 
 -- ---- a step
 
@@ -202,7 +202,7 @@ module _ (F : Making) (none : F 0 0 ≡ 0) (n : ℕ) (f : ℕ → Row) (A : IsTa
     pub first-passed : (x : ℕ) → x < i → belowKey (f x .key) key ≡ true
     first-passed x l = go (S .first) (S .second)
       where
-        go : Side n (keys f) i key i′ → Side m (keys g) j key j′ → belowKey (f x .key) key ≡ true
+        go : TableStep n (keys f) i key i′ → TableStep m (keys g) j key j′ → belowKey (f x .key) key ≡ true
         go (takes a e z) s = subst (λ (y : Key). belowKey (f x .key) y ≡ true) e (rises (keys f) n (A .up) x i l a)
         go (leaves a z) (takes b e q) = subst (λ (y : Key). belowKey (f x .key) y ≡ true) e (W .second-ahead x l b)
         go (leaves a z) (leaves b q) = absurd (omega (arith, S .moved))
@@ -210,7 +210,7 @@ module _ (F : Making) (none : F 0 0 ≡ 0) (n : ℕ) (f : ℕ → Row) (A : IsTa
     pub second-passed : (y : ℕ) → y < j → belowKey (g y .key) key ≡ true
     second-passed y l = go (S .first) (S .second)
       where
-        go : Side n (keys f) i key i′ → Side m (keys g) j key j′ → belowKey (g y .key) key ≡ true
+        go : TableStep n (keys f) i key i′ → TableStep m (keys g) j key j′ → belowKey (g y .key) key ≡ true
         go s (takes b e q) = subst (λ (x : Key). belowKey (g y .key) x ≡ true) e (rises (keys g) m (B .up) y j l b)
         go (takes a e z) (leaves b q) = subst (λ (x : Key). belowKey (g y .key) x ≡ true) e (W .first-ahead y l a)
         go (leaves a z) (leaves b q) = absurd (omega (arith, S .moved))
@@ -259,8 +259,8 @@ module _ (F : Making) (none : F 0 0 ≡ 0) (n : ℕ) (f : ℕ → Row) (A : IsTa
               ∙ sym (ap₂ F (side-else n f A i key i′ (S .first) first-passed x d) (side-else m g B j key j′ (S .second) second-passed x d))
 
       -- the places of the rows passed
-      module _ (n° : ℕ) (f° : ℕ → Row) (o o′ : ℕ) (Q : Side n° (keys f°) o key o′) (passed : (x : ℕ) → x < o → belowKey (f° x .key) key ≡ true) where
-        pub places-on : (map map′ : ℕ → ℕ) → Places f° o map k h → ((x : ℕ) → x < o → map′ x ≡ map x) → (o < o′ → map′ o ≡ k) → Places f° o′ map′ k′ h′
+      module _ (n° : ℕ) (f° : ℕ → Row) (o o′ : ℕ) (Q : TableStep n° (keys f°) o key o′) (passed : (x : ℕ) → x < o → belowKey (f° x .key) key ≡ true) where
+        pub places-on : (map map′ : ℕ → ℕ) → PlacesIn f° o map k h → ((x : ℕ) → x < o → map′ x ≡ map x) → (o < o′ → map′ o ≡ k) → PlacesIn f° o′ map′ k′ h′
         places-on map map′ L same new x l = go (decLt x o) Q
           where
             -- against a row that stood there, and against the one that is put
@@ -291,7 +291,7 @@ module _ (F : Making) (none : F 0 0 ≡ 0) (n : ℕ) (f : ℕ → Row) (A : IsTa
                   after = λ u b c. against key false u b c (below-irrefl key);
                 }
 
-            go : Dec (x < o) → Side n° (keys f°) o key o′ → PlaceIs (keys h′) k′ (f° x .key) (map′ x)
+            go : Dec (x < o) → TableStep n° (keys f°) o key o′ → PlaceIs (keys h′) k′ (f° x .key) (map′ x)
             go (yes d) s = subst (PlaceIs (keys h′) k′ (f° x .key)) (sym (same x d)) (old d)
             go (no d) (leaves a z) = absurd (omega arith)
             go (no d) (takes a e z) =
@@ -331,7 +331,7 @@ module _ (F : Making) (none : F 0 0 ≡ 0) (n : ℕ) (f : ℕ → Row) (A : IsTa
           second-more : (t : Bool) → j′ ≡ j + 1 → secondStays F n f g j ≡ t → howMany (secondStays F n f g) j′ ≡ howMany (secondStays F n f g) j + numberOf t
           second-more t z e = ap (howMany (secondStays F n f g)) z ∙ many-next (secondStays F n f g) j ∙ ap (λ (x : Bool). howMany (secondStays F n f g) j + numberOf x) e
 
-          go : Side n (keys f) i key i′ → Side m (keys g) j key j′ → Put made key k h k′ h′ → k′ ≡ howMany (firstStays F f m g) i′ + howMany (secondStays F n f g) j′
+          go : TableStep n (keys f) i key i′ → TableStep m (keys g) j key j′ → Put made key k h k′ h′ → k′ ≡ howMany (firstStays F f m g) i′ + howMany (secondStays F n f g) j′
           go (takes a e z) (takes c d q) p = omega (arith, grown p, W .count, first-more z a e, second-more false q (second-both a e c d))
           go (takes a e z) (leaves c q) p = omega (arith, grown p, W .count, first-more z a e, ap (howMany (secondStays F n f g)) q)
           go (leaves a z) (takes c d q) p = omega (arith, grown p, W .count, ap (howMany (firstStays F f m g)) z, second-more (ltb 0 made) q (second-alone a z c d))

@@ -19,16 +19,16 @@ use Rattle.sheet.specs.declared.Node.{Node}
 use Rattle.sheet.specs.declared.Edge.{Edge}
 use Rattle.sheet.specs.Limits.{maxOffices, maxNodes, maxEdges, headerWords, edgesFrom, sheetWords}
 use Rattle.sheet.specs.Rows.{word, headerOf, nodeAt, edgeAt, edgeTable, nodeKey, nodeKeyAt, edgeKeyAt}
-use Rattle.sheet.specs.Accepted.{HeaderFits, NodeFits, EdgeShaped, EdgeFits, Rising, Accepted}
+use Rattle.sheet.specs.Accepted.{HeaderFits, NodeFits, EdgeShaped, EdgeFits, RowsRise, Accepted}
 use Rattle.sheet.specs.Named.{nodeRow, edgeRow, tablesOf}
 use Rattle.sheet.specs.Found.{PlaceIs}
 use Rattle.sheet.proofs.Naming.{lower-named}
 use Rattle.sheet.proofs.Places.{stands-there}
 use Rattle.sheet.specs.Stored.{headerSix}
 use Rattle.combine.specs.declared.Part.the-variants.{Nodes, Edges}
-use Rattle.combine.specs.Combined.{Making, keys, Combined, Places}
+use Rattle.combine.specs.Combined.{Making, keys, Combined, PlacesIn}
 use Rattle.combine.specs.Rules.{Rules}
-use Rattle.combine.specs.Parts.{through, spelled, Spelled, by-first, by-second, Words}
+use Rattle.combine.specs.SheetTables.{through, spelled, Spelled, by-first, by-second, Words}
 use Rattle.combine.specs.Sheets.{IsCombined}
 use Rattle.combine.proofs.Reading.{part-own, part-low}
 
@@ -72,11 +72,11 @@ module _ (c n e : ℕ) (wn we : List ℕ) (ln : length wn ≡ 4 * n) (le : lengt
   unfolding headerSix
   six = refl
 
-  before : length (headerSix c n e ++ wn) ≡ 6 + 4 * n
-  before = length-append (headerSix c n e) wn ∙ omega (arith, six)
+  header-long : length (headerSix c n e ++ wn) ≡ 6 + 4 * n
+  header-long = length-append (headerSix c n e) wn ∙ omega (arith, six)
 
   pub sheet-long : length sheet ≡ sheetWords n e
-  sheet-long = length-append (headerSix c n e ++ wn) we ∙ omega (arith, before)
+  sheet-long = length-append (headerSix c n e ++ wn) we ∙ omega (arith, header-long)
 
   pub sheet-header : headerOf sheet ≡ record { form = 1; offices = c; nodes = n; edges = e; nodeoffset = headerWords; edgeoffset = edgesFrom n }
   unfolding headerOf headerSix
@@ -89,12 +89,12 @@ module _ (c n e : ℕ) (wn we : List ℕ) (ln : length wn ≡ 4 * n) (le : lengt
 
   sheet-table : edgeTable sheet ≡ we
   sheet-table =
-      let z : 6 + 4 * n ≡ length (headerSix c n e ++ wn) + 0 = omega (arith, before) in
+      let z : 6 + 4 * n ≡ length (headerSix c n e ++ wn) + 0 = omega (arith, header-long) in
       ap (λ (h : Header). drop (h .edgeoffset) sheet) sheet-header ∙ ap (λ (x : ℕ). drop x sheet) z ∙ drop-append-add (headerSix c n e ++ wn) we 0
 
   node-word : (i : ℕ) → i < 4 * n → word sheet (6 + i) ≡ word wn i
   node-word i l =
-      List·getD-append (headerSix c n e ++ wn) we 0 (6 + i) (omega (arith, before))
+      List·getD-append (headerSix c n e ++ wn) we 0 (6 + i) (omega (arith, header-long))
       ∙ ap (λ (x : ℕ). getD (headerSix c n e ++ wn) (x + i) 0) (sym six) ∙ getD-append-add (headerSix c n e) wn i 0
 
   -- a node row's words stand where an edge row's do
@@ -122,7 +122,7 @@ module _ (N E : Making) (c : ℕ) (a b : List ℕ) (va : Accepted a) (vb : Accep
     (CN : Combined N (headerOf a .nodes) (nodeRow a) (headerOf b .nodes) (nodeRow b) n rowN)
     (CE : Combined E (headerOf a .edges) (edgeRow a (edgeTable a)) (headerOf b .edges) (edgeRow b (edgeTable b)) e rowE)
     (SN : Words Nodes a (headerOf a) b (headerOf b) [] [] n rowN wn) (SE : Words Edges a (headerOf a) b (headerOf b) ma mb e rowE we)
-    (LA : Places (nodeRow a) (headerOf a .nodes) (through ma) n rowN) (LB : Places (nodeRow b) (headerOf b .nodes) (through mb) n rowN) where
+    (LA : PlacesIn (nodeRow a) (headerOf a .nodes) (through ma) n rowN) (LB : PlacesIn (nodeRow b) (headerOf b .nodes) (through mb) n rowN) where
   abbrev t : List ℕ
   t = sheet c n e wn we (SN .long) (SE .long)
 
@@ -190,13 +190,13 @@ module _ (N E : Making) (c : ℕ) (a b : List ℕ) (va : Accepted a) (vb : Accep
         marks = record { some = CN .table .some u l; high = omega (arith, node-here u l, nodes-made (rowN u .key)) };
       })
 
-  nodes-rise : Rising (nodeKeyAt t) n
-  nodes-rise u l = ap₂ belowKey (node-key u (omega arith)) (node-key (u + 1) l) ∙ CN .table .up u l
+  laid-nodes-rise : RowsRise (nodeKeyAt t) n
+  laid-nodes-rise u l = ap₂ belowKey (node-key u (omega arith)) (node-key (u + 1) l) ∙ CN .table .up u l
 
   -- ---- edge rows
 
   -- an end: where it stands, with its identity, and its marks bear the row's
-  record End (v x : ℕ) (k : Key) : Type 0 where
+  record EndStands (v x : ℕ) (k : Key) : Type 0 where
     stands : x < n
     named : nodeKeyAt t x ≡ k
     bears : within (rowE v .marks) (nodeAt t x .offices) ≡ true
@@ -210,13 +210,13 @@ module _ (N E : Making) (c : ℕ) (a b : List ℕ) (va : Accepted a) (vb : Accep
     kind : edgeAt we v .kind ≡ edgeAt (edgeTable from-sheet) place .kind
     marks : edgeAt we v .offices ≡ rowE v .marks
     key : edgeRow from-sheet (edgeTable from-sheet) place .key ≡ rowE v .key
-    from : End v (edgeAt we v .from) (nodeKeyAt from-sheet (edgeAt (edgeTable from-sheet) place .from))
-    to : End v (edgeAt we v .to) (nodeKeyAt from-sheet (edgeAt (edgeTable from-sheet) place .to))
+    from : EndStands v (edgeAt we v .from) (nodeKeyAt from-sheet (edgeAt (edgeTable from-sheet) place .from))
+    to : EndStands v (edgeAt we v .to) (nodeKeyAt from-sheet (edgeAt (edgeTable from-sheet) place .to))
 
   -- an end's marks bear the row's, so it stays
   end : (v x : ℕ) (k : Key) (map : ℕ → ℕ) (s : List ℕ) (p : ℕ) → v < e → within (E (marksAt (rowsOf (headerOf a .edges) (edgeRow a (edgeTable a))) (rowE v .key)) (marksAt (rowsOf (headerOf b .edges) (edgeRow b (edgeTable b))) (rowE v .key)))
       (N (marksAt (rowsOf (headerOf a .nodes) (nodeRow a)) k) (marksAt (rowsOf (headerOf b .nodes) (nodeRow b)) k)) ≡ true
-      → Places (nodeRow s) (headerOf s .nodes) map n rowN → p < headerOf s .nodes → nodeKeyAt s p ≡ k → x ≡ map p → End v x k
+      → PlacesIn (nodeRow s) (headerOf s .nodes) map n rowN → p < headerOf s .nodes → nodeKeyAt s p ≡ k → x ≡ map p → EndStands v x k
   unfolding nodeRow
   end v x k map s p l inside L d e q =
       let m : within (rowE v .marks) (marksAt (rowsOf n rowN) k) ≡ true = ap₂ within (sym (edge-here v l) ∙ CE .marks (rowE v .key)) (CN .marks k) ∙ inside in
@@ -242,7 +242,7 @@ module _ (N E : Making) (c : ℕ) (a b : List ℕ) (va : Accepted a) (vb : Accep
           (N (marksAt (rowsOf (headerOf a .nodes) (nodeRow a)) (identity t′ n′ u′)) (marksAt (rowsOf (headerOf b .nodes) (nodeRow b)) (identity t′ n′ u′))) ≡ true
       made-to kind t n u t′ n′ u′ q = rw (← q) (R .inside _ _ _ _ (part-low a (headerOf a) va Edges _) (part-low a (headerOf a) va Nodes _) (part-low b (headerOf b) vb Edges _) (part-low b (headerOf b) vb Nodes _) (to-within a va kind t n u t′ n′ u′) (to-within b vb kind t n u t′ n′ u′))
 
-      via : (s : List ℕ) (vs : Accepted s) (map : List ℕ) → Places (nodeRow s) (headerOf s .nodes) (through map) n rowN → (x : ℕ) → x < headerOf s .edges → edgeRow s (edgeTable s) x .key ≡ rowE v .key
+      via : (s : List ℕ) (vs : Accepted s) (map : List ℕ) → PlacesIn (nodeRow s) (headerOf s .nodes) (through map) n rowN → (x : ℕ) → x < headerOf s .edges → edgeRow s (edgeTable s) x .key ≡ rowE v .key
           → edgeAt we v ≡ record { kind = edgeAt (edgeTable s) x .kind; from = through map (edgeAt (edgeTable s) x .from); to = through map (edgeAt (edgeTable s) x .to); offices = rowE v .marks } → EdgeFrom v
       via s vs map L x d k q =
           let p = vs .edges .shaped x d in
@@ -298,9 +298,9 @@ module _ (N E : Making) (c : ℕ) (a b : List ℕ) (va : Accepted a) (vb : Accep
       }
 
   -- rows that rise by what they name rise by row numbers
-  edges-rise : Rising (edgeKeyAt we) e
+  laid-edges-rise : RowsRise (edgeKeyAt we) e
   unfolding edgeRow
-  edges-rise v l = go (lies (edgeKeyAt we v) (edgeKeyAt we (v + 1)))
+  laid-edges-rise v l = go (lies (edgeKeyAt we v) (edgeKeyAt we (v + 1)))
     where
       up : belowKey (edgeRow t we v .key) (edgeRow t we (v + 1) .key) ≡ true
       up = ap₂ (λ (x y : Row). belowKey (x .key) (y .key)) (edge-row v (omega arith)) (edge-row (v + 1) l) ∙ CE .table .up v l
@@ -319,22 +319,22 @@ module _ (N E : Making) (c : ℕ) (a b : List ℕ) (va : Accepted a) (vb : Accep
           let to : edgeAt we v .to ≡ edgeAt we (v + 1) .to = cc in
           absurd (below-apart (edgeRow t we v .key) (edgeRow t we (v + 1) .key) up (λ i. relation (kind i) (nodeKeyAt t (from i)) (nodeKeyAt t (to i))))
       go (higher u s w) =
-          absurd (true≢false (sym (lower-named t n nodes-rise (edgeAt we (v + 1)) (edgeAt we v) (two .from .stands) (one .from .stands) (two .to .stands) (one .to .stands) u)
+          absurd (true≢false (sym (lower-named t n laid-nodes-rise (edgeAt we (v + 1)) (edgeAt we v) (two .from .stands) (one .from .stands) (two .to .stands) (one .to .stands) u)
           ∙ below-asym (edgeRow t we v .key) (edgeRow t we (v + 1) .key) up))
 
   -- ---- all of it
 
-  pub accepted : Accepted t
-  accepted =
+  pub laid-accepted : Accepted t
+  laid-accepted =
       record {
         head = refl;
         table = refl;
-        nodes = record { header = sheet-fits c n e wn we (SN .long) (SE .long) low high few-nodes few-edges; fit = λ u l. node-fit u (omega (arith, t-nodes)); rise = λ u l. nodes-rise u (omega (arith, t-nodes)) };
+        nodes = record { header = sheet-fits c n e wn we (SN .long) (SE .long) low high few-nodes few-edges; fit = λ u l. node-fit u (omega (arith, t-nodes)); rise = λ u l. laid-nodes-rise u (omega (arith, t-nodes)) };
         edges = rw (t-table) (record {
           room = omega (arith, SE .long, t-edges);
           shaped = λ v l. edge-shaped v (omega (arith, t-edges));
           fit = λ v l. edge-fit v (omega (arith, t-edges));
-          rise = λ v l. edges-rise v (omega (arith, t-edges));
+          rise = λ v l. laid-edges-rise v (omega (arith, t-edges));
         });
       }
 
@@ -342,7 +342,7 @@ module _ (N E : Making) (c : ℕ) (a b : List ℕ) (va : Accepted a) (vb : Accep
   unfolding tablesOf
   combined =
       record {
-        accepted = accepted;
+        accepted = laid-accepted;
         offices-are = t-offices;
         nodes = λ k. rw (t-nodes, rows-alike n rowN (nodeRow t) node-row) (CN .marks k);
         edges = λ k. rw (t-edges, t-table, rows-alike e rowE (edgeRow t we) edge-row) (CE .marks k);

@@ -21,14 +21,14 @@ use Rattle.sheet.specs.declared.Node.{Node}
 use Rattle.sheet.specs.declared.Header.{Header}
 use Rattle.sheet.specs.Rows.{nodeAt, edgeAt, edgeTable, nodeKey, nodeKeyAt}
 use Rattle.sheet.specs.Named.{nodeRow, edgeRow}
-use Rattle.sheet.specs.Accepted.{WellFormed, Accepted, Rising}
+use Rattle.sheet.specs.Accepted.{WellFormed, Accepted, RowsRise}
 use Rattle.sheet.proofs.Naming.{edges-up}
 use Rattle.combine.specs.declared.Part.{Part}
 use Rattle.combine.specs.declared.Part.the-variants.{Nodes, Edges}
 use Rattle.sheet.specs.Stored.{edgeFour}
 use Rattle.combine.specs.declared.Passed.{Passed}
-use Rattle.combine.specs.Combined.{keys, IsTable, Side, takes, leaves, given}
-use Rattle.combine.specs.Parts.{countIn, rowAt, wordsAt, through, spelled, Moves, noted, storedAt, takenWords}
+use Rattle.combine.specs.Combined.{keys, IsTable, TableStep, takes, leaves, given}
+use Rattle.combine.specs.SheetTables.{countIn, rowAt, wordsAt, through, spelled, Moves, noted, storedAt, takenWords}
 use Rattle.combine.proofs.Combining.{given-taken, given-left}
 
 module _ (s : List ℕ) (h : Header) (w : WellFormed s (edgeTable s) h) where
@@ -51,8 +51,8 @@ module _ (s : List ℕ) (h : Header) (w : WellFormed s (edgeTable s) h) where
   pub to-room : (j : ℕ) (e : Edge) → j < h .edges → e ≡ edgeAt (edgeTable s) j → 6 + 4 * e .to + 4 ≤ length s
   to-room j e l q = node-room (e .to) (omega (arith, w .edges .shaped j l .to, ap (λ (x : Edge). x .to) q))
 
-  pub accepted : Accepted s
-  accepted = subst (λ (x : Header). WellFormed s (edgeTable s) x) (w .head) w
+  pub read-accepted : Accepted s
+  read-accepted = subst (λ (x : Header). WellFormed s (edgeTable s) x) (w .head) w
 
   -- there are no more rows than a sheet has
   pub few : (part : Part) → countIn part h ≤ 2048
@@ -64,8 +64,8 @@ module _ (s : List ℕ) (h : Header) (w : WellFormed s (edgeTable s) h) where
   part-table Nodes = record { up = λ i l. w .nodes .rise i l; some = λ i l. w .nodes .fit i l .marks .some }
   part-table Edges = record { up = rising; some = λ j l. w .edges .fit j l .marks .some }
     where
-      rising : Rising (λ j. edgeRow s (edgeTable s) j .key) (h .edges)
-      rising = subst (λ (x : Header). Rising (λ j. edgeRow s (edgeTable s) j .key) (x .edges)) (sym (w .head)) (edges-up s accepted)
+      rising : RowsRise (λ j. edgeRow s (edgeTable s) j .key) (h .edges)
+      rising = subst (λ (x : Header). RowsRise (λ j. edgeRow s (edgeTable s) j .key) (x .edges)) (sym (w .head)) (edges-up s read-accepted)
 
   pub part-marks : (part : Part) (i : ℕ) → i < countIn part h → rowAt part s i .marks < 2 ^ h .offices
   unfolding nodeRow edgeRow
@@ -136,11 +136,11 @@ module _ (n : ℕ) (f : ℕ → Row) (m : ℕ) (g : ℕ → Row) (i j : ℕ) (r 
 pub moves-inside : (n : ℕ) (f : ℕ → Row) (m : ℕ) (g : ℕ → Row) (i j i′ j′ : ℕ) → Moves n f m g i j i′ j′ → (i < i′ → i < n) × (j < j′ → j < m) × (i′ ≤ i → j < m)
 moves-inside n f m g i j i′ j′ M = let S = M .stepped in (inside n (keys f) i _ (S .first), inside m (keys g) j _ (S .second), alone (S .first) (S .second))
   where
-    inside : (n′ : ℕ) (f′ : ℕ → Key) (o o′ : ℕ) → Side n′ f′ o (M .key) o′ → o < o′ → o < n′
+    inside : (n′ : ℕ) (f′ : ℕ → Key) (o o′ : ℕ) → TableStep n′ f′ o (M .key) o′ → o < o′ → o < n′
     inside n′ f′ o o′ (takes a e z) l = a
     inside n′ f′ o o′ (leaves a z) l = absurd (omega arith)
 
-    alone : Side n (keys f) i (M .key) i′ → Side m (keys g) j (M .key) j′ → i′ ≤ i → j < m
+    alone : TableStep n (keys f) i (M .key) i′ → TableStep m (keys g) j (M .key) j′ → i′ ≤ i → j < m
     alone s (takes a e z) l = a
     alone (takes a e z) (leaves b q) l = absurd (omega arith)
     alone (leaves a z) (leaves b q) l = absurd (omega (arith, M .stepped .moved))
@@ -207,5 +207,5 @@ taken-second part a ma b mb i next j marks h = rw (le-ltb i next h) refl
 pub one-is : (marks : ℕ) → 0 < marks → (1 ≡ numberOf (ltb 0 marks)) × (1 ≤ 1)
 one-is marks h = (sym (ap numberOf (lt-ltb 0 marks h)), omega arith)
 
-pub none-is : (marks : ℕ) → marks ≤ 0 → (0 ≡ numberOf (ltb 0 marks)) × (0 ≤ 1)
-none-is marks h = (sym (ap numberOf (le-ltb 0 marks h)), omega arith)
+pub no-marks-is : (marks : ℕ) → marks ≤ 0 → (0 ≡ numberOf (ltb 0 marks)) × (0 ≤ 1)
+no-marks-is marks h = (sym (ap numberOf (le-ltb 0 marks h)), omega arith)

@@ -22,10 +22,10 @@ use Rattle.sheet.proofs.Storing.{edge-is}
 use Rattle.combine.specs.declared.Part.{Part}
 use Rattle.combine.specs.declared.Rule.{Rule}
 use Rattle.combine.specs.declared.Next.{Next}
-use Rattle.combine.specs.Combined.{keys, IsTable, firstStays, secondStays, Side, takes, leaves, given, Walked, Put, Places}
+use Rattle.combine.specs.Combined.{keys, IsTable, firstStays, secondStays, TableStep, takes, leaves, given, Walked, Put, PlacesIn}
 use Rattle.combine.specs.Rules.{makes}
-use Rattle.combine.specs.Parts.{countIn, rowAt, Inputs, Steps, Left, partRows, noted, Surveyed, Spelled, by-first, by-second, Words, Written, storedAt, takenWords}
-use Rattle.combine.proofs.Combining.{behind, putting-as, side-inside, next, walk-starts, walk-on, walk-done, walk-room, places-on, first-passed, second-passed}
+use Rattle.combine.specs.SheetTables.{countIn, rowAt, Inputs, MarkedStep, Left, partRows, noted, Surveyed, Spelled, by-first, by-second, Words, Written, storedAt, takenWords}
+use Rattle.combine.proofs.Combining.{rowBehind, putting-as, side-inside, next, walk-starts, walk-on, walk-done, walk-room, places-on, first-passed, second-passed}
 use Rattle.combine.proofs.Reading.{part-table, few, stored-some, stored-none, taken-first, taken-second}
 
 -- ---- places noted
@@ -89,8 +89,8 @@ stored-on words out out₀ k e l q h =
 pub record Surveying (rule : Rule) (part : Part) (a : List ℕ) (h : Header) (b : List ℕ) (g : Header) (i j k : ℕ) (ma mb : List ℕ) : Type 0 where
   pub row : ℕ → Row
   pub walked : Walked (makes rule) (countIn part h) (rowAt part a) (countIn part g) (rowAt part b) i j k row
-  pub first : countIn part h ≤ length ma → Places (rowAt part a) i (λ x. getD ma x 0) k row
-  pub second : countIn part g ≤ length mb → Places (rowAt part b) j (λ x. getD mb x 0) k row
+  pub first : countIn part h ≤ length ma → PlacesIn (rowAt part a) i (λ x. getD ma x 0) k row
+  pub second : countIn part g ≤ length mb → PlacesIn (rowAt part b) j (λ x. getD mb x 0) k row
 
 -- rows are combined, and their words stand in front of the output
 pub record Writing (rule : Rule) (part : Part) (a : List ℕ) (h : Header) (b : List ℕ) (g : Header) (ma mb : List ℕ) (i j k : ℕ) (out₀ out : List ℕ) : Type 0 where
@@ -107,17 +107,17 @@ module _ (rule : Rule) (part : Part) (a : List ℕ) (h : Header) (b : List ℕ) 
   B : IsTable (countIn part g) (rowAt part b)
   B = part-table b g (I .second) part
 
-  nothing : ℕ → Row
-  nothing u = record { key = []; marks = 0 }
+  no-rows : ℕ → Row
+  no-rows u = record { key = []; marks = 0 }
 
-  start : Walked (makes rule) (countIn part h) (rowAt part a) (countIn part g) (rowAt part b) 0 0 0 nothing
-  start = walk-starts (makes rule) (I .none) _ _ A _ _ B nothing
+  start : Walked (makes rule) (countIn part h) (rowAt part a) (countIn part g) (rowAt part b) 0 0 0 no-rows
+  start = walk-starts (makes rule) (I .none) _ _ A _ _ B no-rows
 
   pub surveying-none : (ma mb : List ℕ) → Surveying rule part a h b g 0 0 0 ma mb
-  surveying-none ma mb = record { row = nothing; walked = start; first = λ n x l. absurd (omega arith); second = λ n x l. absurd (omega arith) }
+  surveying-none ma mb = record { row = no-rows; walked = start; first = λ n x l. absurd (omega arith); second = λ n x l. absurd (omega arith) }
 
   pub writing-none : (ma mb out : List ℕ) → Writing rule part a h b g ma mb 0 0 0 out out
-  writing-none ma mb out = record { row = nothing; words = []; walked = start; spells = record { long = refl; each = λ u l. absurd (omega arith) }; holds = refl }
+  writing-none ma mb out = record { row = no-rows; words = []; walked = start; spells = record { long = refl; each = λ u l. absurd (omega arith) }; holds = refl }
 
   module _ (i j k : ℕ) (row : ℕ → Row) (W : Walked (makes rule) (countIn part h) (rowAt part a) (countIn part g) (rowAt part b) i j k row) where
     -- while rows are left there is a next one
@@ -131,9 +131,9 @@ module _ (rule : Rule) (part : Part) (a : List ℕ) (h : Header) (b : List ℕ) 
         let y : j ≤ 2048 = omega (arith, W .second-in, few b g (I .second) part) in
         (x, y, omega (arith, W .count, many-most (firstStays (makes rule) (rowAt part a) (countIn part g) (rowAt part b)) i, many-most (secondStays (makes rule) (countIn part h) (rowAt part a) (rowAt part b)) j))
 
-    module _ (r : Next) (S : Steps rule part a h b g i j r) where
+    module _ (r : Next) (S : MarkedStep rule part a h b g i j r) where
       next-row : ℕ → Row
-      next-row = behind k row (record { key = S .moves .key; marks = r .marks })
+      next-row = rowBehind k row (record { key = S .moves .key; marks = r .marks })
 
       -- there is room for a row that has marks
       pub room : 0 < r .marks → k < partRows rule part a h b g
@@ -147,7 +147,7 @@ module _ (rule : Rule) (part : Part) (a : List ℕ) (h : Header) (b : List ℕ) 
         on : Walked (makes rule) (countIn part h) (rowAt part a) (countIn part g) (rowAt part b) (r .i) (r .j) k′ next-row
         on = walk-on (makes rule) (I .none) _ _ A _ _ B i j k row W (S .moves .key) (r .i) (r .j) (S .moves .stepped) k′ next-row P
 
-  module _ (i j k : ℕ) (r : Next) (S : Steps rule part a h b g i j r) (k′ : ℕ) (count : k′ ≡ k + numberOf (ltb 0 (r .marks))) where
+  module _ (i j k : ℕ) (r : Next) (S : MarkedStep rule part a h b g i j r) (k′ : ℕ) (count : k′ ≡ k + numberOf (ltb 0 (r .marks))) where
     pub surveying-on : (ma mb : List ℕ) (X : Surveying rule part a h b g i j k ma mb) (ma′ mb′ : List ℕ) → ma′ ≡ noted ma i (r .i) k → mb′ ≡ noted mb j (r .j) k → Surveying rule part a h b g (r .i) (r .j) k′ ma′ mb′
     surveying-on ma mb X ma′ mb′ p q =
         record {
@@ -159,8 +159,8 @@ module _ (rule : Rule) (part : Part) (a : List ℕ) (h : Header) (b : List ℕ) 
               mb mb′ q n (X .second (omega (arith, ap length q, noted-long mb j (r .j) k)));
         }
       where
-        places : (n° : ℕ) (f° : ℕ → Row) (T : IsTable n° f°) (o o′ : ℕ) (Q : Side n° (keys f°) o (S .moves .key) o′) → ((x : ℕ) → x < o → belowKey (f° x .key) (S .moves .key) ≡ true)
-            → (map map′ : List ℕ) → map′ ≡ noted map o o′ k → n° ≤ length map′ → Places f° o (λ x. getD map x 0) k (X .row) → Places f° o′ (λ x. getD map′ x 0) k′ (next-row i j k (X .row) (X .walked) r S)
+        places : (n° : ℕ) (f° : ℕ → Row) (T : IsTable n° f°) (o o′ : ℕ) (Q : TableStep n° (keys f°) o (S .moves .key) o′) → ((x : ℕ) → x < o → belowKey (f° x .key) (S .moves .key) ≡ true)
+            → (map map′ : List ℕ) → map′ ≡ noted map o o′ k → n° ≤ length map′ → PlacesIn f° o (λ x. getD map x 0) k (X .row) → PlacesIn f° o′ (λ x. getD map′ x 0) k′ (next-row i j k (X .row) (X .walked) r S)
         places n° f° T o o′ Q passed map map′ e n L =
             places-on (makes rule) (I .none) _ _ A _ _ B i j k (X .row) (X .walked) (S .moves .key) (r .i) (r .j) (S .moves .stepped) k′ _ (P i j k (X .row) (X .walked) r S k′ count) n° f° o o′ Q passed
             (λ x. getD map x 0) (λ x. getD map′ x 0) L
@@ -178,14 +178,14 @@ module _ (rule : Rule) (part : Part) (a : List ℕ) (h : Header) (b : List ℕ) 
         new : Row
         new = record { key = S .moves .key; marks = r .marks }
 
-        kept : (u : ℕ) → u < k → behind k (X .row) new u ≡ X .row u
+        kept : (u : ℕ) → u < k → rowBehind k (X .row) new u ≡ X .row u
         kept u l = ap (λ (t : Bool). cond t (X .row u) new) (lt-ltb u k l)
 
-        fresh : behind k (X .row) new k ≡ new
+        fresh : rowBehind k (X .row) new k ≡ new
         fresh = ap (λ (t : Bool). cond t (X .row k) new) (le-ltb k k (omega arith))
 
         -- the row is that of the table which the step takes
-        by : Side (countIn part h) (keys (rowAt part a)) i (S .moves .key) (r .i) → Side (countIn part g) (keys (rowAt part b)) j (S .moves .key) (r .j) → Spelled part a h b g ma mb new e
+        by : TableStep (countIn part h) (keys (rowAt part a)) i (S .moves .key) (r .i) → TableStep (countIn part g) (keys (rowAt part b)) j (S .moves .key) (r .j) → Spelled part a h b g ma mb new e
         by (takes l d z) s = by-first i l d (p ∙ sym (taken-first part a ma b mb i (r .i) j (r .marks) (omega arith)))
         by (leaves l z) (takes l′ d z′) = by-second j l′ d (p ∙ sym (taken-second part a ma b mb i (r .i) j (r .marks) (omega arith)))
         by (leaves l z) (leaves l′ z′) = absurd (omega (arith, S .moves .stepped .moved))
@@ -214,14 +214,14 @@ module _ (rule : Rule) (part : Part) (a : List ℕ) (h : Header) (b : List ℕ) 
               holds = q ∙ sym (stored-some out k (r .marks) e d) ∙ stored-on (X .words) out out₀ k e long (X .holds) (omega arith) ∙ ap (λ (x : ℕ). (X .words ++ edgeFour e) ++ drop (4 * x) out₀) (sym more);
             }
           where
-            each : (u : ℕ) → u < k′ → Dec (u < k) → Spelled part a h b g ma mb (behind k (X .row) new u) (edgeAt (X .words ++ edgeFour e) u)
+            each : (u : ℕ) → u < k′ → Dec (u < k) → Spelled part a h b g ma mb (rowBehind k (X .row) new u) (edgeAt (X .words ++ edgeFour e) u)
             each u l (yes x) =
                 subst (λ (y : Row). Spelled part a h b g ma mb y (edgeAt (X .words ++ edgeFour e) u)) (sym (kept u x))
                 (subst (Spelled part a h b g ma mb (X .row u)) (sym (row-kept (X .words) (edgeFour e) u (omega (arith, X .spells .long)))) (X .spells .each u x))
             each u l (no x) =
                 let z : numberOf (ltb 0 (r .marks)) ≡ 1 = ap numberOf (lt-ltb 0 (r .marks) d) in
                 let w : k ≡ u = omega arith in
-                subst (λ (y : ℕ). Spelled part a h b g ma mb (behind k (X .row) new y) (edgeAt (X .words ++ edgeFour e) y)) w
+                subst (λ (y : ℕ). Spelled part a h b g ma mb (rowBehind k (X .row) new y) (edgeAt (X .words ++ edgeFour e) y)) w
                 (subst (λ (y : Row). Spelled part a h b g ma mb y (edgeAt (X .words ++ edgeFour e) k)) (sym fresh)
                 (subst (Spelled part a h b g ma mb new) (sym (row-new (X .words) e k (X .spells .long))) (by (S .moves .stepped .first) (S .moves .stepped .second))))
 
@@ -232,33 +232,33 @@ module _ (rule : Rule) (part : Part) (a : List ℕ) (h : Header) (b : List ℕ) 
         row = X .row;
         combined = d .0;
         count = d .1;
-        first = λ n. subst (λ (x : ℕ). Places (rowAt part a) x (λ y. getD ma y 0) k (X .row)) (d .2) (X .first n);
-        second = λ n. subst (λ (x : ℕ). Places (rowAt part b) x (λ y. getD mb y 0) k (X .row)) (d .3) (X .second n);
+        first = λ n. subst (λ (x : ℕ). PlacesIn (rowAt part a) x (λ y. getD ma y 0) k (X .row)) (d .2) (X .first n);
+        second = λ n. subst (λ (x : ℕ). PlacesIn (rowAt part b) x (λ y. getD mb y 0) k (X .row)) (d .3) (X .second n);
       }
 
-  pub written : (ma mb : List ℕ) (i j k : ℕ) (out₀ out : List ℕ) → Writing rule part a h b g ma mb i j k out₀ out → countIn part h + countIn part g ≤ i + j → Written rule part a h b g ma mb (partRows rule part a h b g) out₀ out
-  written ma mb i j k out₀ out X l =
+  pub all-written : (ma mb : List ℕ) (i j k : ℕ) (out₀ out : List ℕ) → Writing rule part a h b g ma mb i j k out₀ out → countIn part h + countIn part g ≤ i + j → Written rule part a h b g ma mb (partRows rule part a h b g) out₀ out
+  all-written ma mb i j k out₀ out X l =
       let d = walk-done (makes rule) (I .none) _ _ A _ _ B i j k (X .row) (X .walked) l in
       subst (λ (x : ℕ). Written rule part a h b g ma mb x out₀ out) (d .1)
       (record { row = X .row; words = X .words; combined = d .0; spells = X .spells; holds = X .holds ∙ ap (λ (x : ℕ). X .words ++ drop x out₀) (sym (X .spells .long)) })
 
   -- ---- a combination can always be written where there is room
 
-  pub record Writes (ma mb out : List ℕ) : Type 0 where
+  pub record WritesRows (ma mb out : List ℕ) : Type 0 where
     pub after : List ℕ
     pub is : Written rule part a h b g ma mb (partRows rule part a h b g) out after
 
-  writes-on : (ma mb out₀ : List ℕ) → 4 * partRows rule part a h b g ≤ length out₀ → (left i j k : ℕ) (out : List ℕ) → Writing rule part a h b g ma mb i j k out₀ out → countIn part h + countIn part g ≤ i + j + left → Writes ma mb out₀
-  writes-on ma mb out₀ most zero i j k out X l = record { after = out; is = written ma mb i j k out₀ out X (omega arith) }
+  writes-on : (ma mb out₀ : List ℕ) → 4 * partRows rule part a h b g ≤ length out₀ → (left i j k : ℕ) (out : List ℕ) → Writing rule part a h b g ma mb i j k out₀ out → countIn part h + countIn part g ≤ i + j + left → WritesRows ma mb out₀
+  writes-on ma mb out₀ most zero i j k out X l = record { after = out; is = all-written ma mb i j k out₀ out X (omega arith) }
   writes-on ma mb out₀ most (suc left) i j k out X l = go (decLt (i + j) (countIn part h + countIn part g)) (writes-on ma mb out₀ most left)
     where
-      go : Dec (i + j < countIn part h + countIn part g) → ((i′ j′ k′ : ℕ) (out′ : List ℕ) → Writing rule part a h b g ma mb i′ j′ k′ out₀ out′ → countIn part h + countIn part g ≤ i′ + j′ + left → Writes ma mb out₀) → Writes ma mb out₀
-      go (no d) more = record { after = out; is = written ma mb i j k out₀ out X (omega arith) }
+      go : Dec (i + j < countIn part h + countIn part g) → ((i′ j′ k′ : ℕ) (out′ : List ℕ) → Writing rule part a h b g ma mb i′ j′ k′ out₀ out′ → countIn part h + countIn part g ≤ i′ + j′ + left → WritesRows ma mb out₀) → WritesRows ma mb out₀
+      go (no d) more = record { after = out; is = all-written ma mb i j k out₀ out X (omega arith) }
       go (yes d) more =
           let s = next (countIn part h) (keys (rowAt part a)) (countIn part g) (keys (rowAt part b)) i j d (X .walked .first-in) (X .walked .second-in) in
           let r : Next = record { i = s .first-on; j = s .second-on; marks = makes rule (given (rowAt part a) i (s .first-on)) (given (rowAt part b) j (s .second-on)) } in
-          let S : Steps rule part a h b g i j r = record { moves = record { key = s .key; stepped = s .stepped }; made = refl } in
+          let S : MarkedStep rule part a h b g i j r = record { moves = record { key = s .key; stepped = s .stepped }; made = refl } in
           more (s .first-on) (s .second-on) _ _ (writing-on i j k r S _ refl ma mb out₀ out X _ _ refl refl most) (omega (arith, s .stepped .moved))
 
-  pub writes : (ma mb out : List ℕ) → 4 * partRows rule part a h b g ≤ length out → Writes ma mb out
+  pub writes : (ma mb out : List ℕ) → 4 * partRows rule part a h b g ≤ length out → WritesRows ma mb out
   writes ma mb out most = writes-on ma mb out most (countIn part h + countIn part g) 0 0 0 out (writing-none ma mb out) (omega arith)

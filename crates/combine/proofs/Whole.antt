@@ -19,9 +19,9 @@ use Rattle.combine.specs.declared.Part.{Part}
 use Rattle.combine.specs.declared.Part.the-variants.{Nodes, Edges}
 use Rattle.combine.specs.declared.Rule.{Rule}
 use Rattle.combine.specs.declared.Measure.{Measure}
-use Rattle.combine.specs.Combined.{keys, Combined, Places}
+use Rattle.combine.specs.Combined.{keys, Combined, PlacesIn}
 use Rattle.combine.specs.Rules.{makes}
-use Rattle.combine.specs.Parts.{Inputs, through, Written, partRows}
+use Rattle.combine.specs.SheetTables.{Inputs, through, Written, partRows}
 use Rattle.combine.specs.Sheets.{IsCombined, Pair, Measured, Laid}
 use Rattle.combine.proofs.Reading.{entry-inside}
 use Rattle.combine.proofs.Walking.{writes}
@@ -75,7 +75,7 @@ module _ (nodes edges : Rule) (c : ℕ) (a b : List ℕ) (Q : Pair nodes edges c
     (few-nodes : m .nodes ≤ maxNodes) (few-edges : m .edges ≤ maxEdges) where
   -- the places that were noted are places in what is written
   places : (s : List ℕ) (map : List ℕ) → Accepted s → length map ≡ maxNodes → (row : ℕ → Row) → Combined (makes nodes) (headerOf a .nodes) (nodeRow a) (headerOf b .nodes) (nodeRow b) (m .nodes) row
-      → (headerOf s .nodes ≤ length map → Places (nodeRow s) (headerOf s .nodes) (λ x. getD map x 0) (m .nodes) (M .node-rows .row)) → Places (nodeRow s) (headerOf s .nodes) (through map) (m .nodes) row
+      → (headerOf s .nodes ≤ length map → PlacesIn (nodeRow s) (headerOf s .nodes) (λ x. getD map x 0) (m .nodes) (M .node-rows .row)) → PlacesIn (nodeRow s) (headerOf s .nodes) (through map) (m .nodes) row
   places s map v long row C L x l =
       let fits : headerOf s .nodes ≤ length map = omega (arith, v .nodes .header .nodes) in
       subst (PlaceIs (keys row) (m .nodes) (nodeRow s x .key)) (entry-inside map x (omega arith))

@@ -7,7 +7,7 @@ use lib.Dec.{ltb}
 use Rattle.tables.specs.Count.{howMany, has}
 use Rattle.tables.specs.Key.{Key, belowKey}
 use Rattle.tables.specs.Table.{Row, rowsOf, marksAt}
-use Rattle.sheet.specs.Accepted.{Rising}
+use Rattle.sheet.specs.Accepted.{RowsRise}
 use Rattle.sheet.specs.Found.{PlaceIs}
 
 -- what is made of the marks of two tables at one key
@@ -20,7 +20,7 @@ keys f x = f x .key
 
 -- n rows are a table: they rise and bear marks
 pub record IsTable (n : ℕ) (f : ℕ → Row) : Type 0 where
-  pub up : Rising (keys f) n
+  pub up : RowsRise (keys f) n
   pub some : (i : ℕ) → i < n → 0 < f i .marks
 
 -- k rows are n rows and m rows combined
@@ -42,14 +42,14 @@ rowsKept F n f m g = howMany (firstStays F f m g) n + howMany (secondStays F n f
 -- ---- a walk over both tables
 
 -- the next key is the next of this table, which is taken, or lower than that
-pub data Side (n : ℕ) (f : ℕ → Key) (i : ℕ) (key : Key) (next : ℕ) : Type 0 where
-  takes : i < n → f i ≡ key → next ≡ i + 1 → Side n f i key next
-  leaves : (i < n → belowKey key (f i) ≡ true) → next ≡ i → Side n f i key next
+pub data TableStep (n : ℕ) (f : ℕ → Key) (i : ℕ) (key : Key) (next : ℕ) : Type 0 where
+  takes : i < n → f i ≡ key → next ≡ i + 1 → TableStep n f i key next
+  leaves : (i < n → belowKey key (f i) ≡ true) → next ≡ i → TableStep n f i key next
 
 -- the next key of both, after the first i keys of f and the first j of g
 pub record Stepped (n : ℕ) (f : ℕ → Key) (m : ℕ) (g : ℕ → Key) (i j : ℕ) (key : Key) (next-i next-j : ℕ) : Type 0 where
-  pub first : Side n f i key next-i
-  pub second : Side m g j key next-j
+  pub first : TableStep n f i key next-i
+  pub second : TableStep m g j key next-j
   pub moved : i + j < next-i + next-j
 
 -- the marks that a table gives a step: those of its next row where it is taken, else none
@@ -71,5 +71,5 @@ pub data Put (marks : ℕ) (key : Key) (k : ℕ) (h : ℕ → Row) (k′ : ℕ) 
   stays : 0 < marks → k′ ≡ k + 1 → ((u : ℕ) → u < k → h′ u ≡ h u) → h′ k ≡ record { key = key; marks = marks } → Put marks key k h k′ h′
 
 -- where the first i rows of a table stand in the combination, or would stand where they have no marks there: the places that a search for them finds
-abbrev pub Places : (ℕ → Row) → ℕ → (ℕ → ℕ) → ℕ → (ℕ → Row) → Type 0
-Places f i map k h = (x : ℕ) → x < i → PlaceIs (keys h) k (f x .key) (map x)
+abbrev pub PlacesIn : (ℕ → Row) → ℕ → (ℕ → ℕ) → ℕ → (ℕ → Row) → Type 0
+PlacesIn f i map k h = (x : ℕ) → x < i → PlaceIs (keys h) k (f x .key) (map x)

@@ -24,11 +24,11 @@ pub record Sound (F : Making) (a b c : ℕ) : Type 0 where
   pub fits : (x y : ℕ) → x < 2 ^ a → y < 2 ^ b → F x y < 2 ^ c
 
 -- what is made of an edge's marks lies within what is made of an end's, where the marks do
-abbrev pub Inside : Making → Making → ℕ → ℕ → Type 0
-Inside E N a b = (x y p q : ℕ) → x < 2 ^ a → p < 2 ^ a → y < 2 ^ b → q < 2 ^ b → within x p ≡ true → within y q ≡ true → within (E x y) (N p q) ≡ true
+abbrev pub StaysWithin : Making → Making → ℕ → ℕ → Type 0
+StaysWithin E N a b = (x y p q : ℕ) → x < 2 ^ a → p < 2 ^ a → y < 2 ^ b → q < 2 ^ b → within x p ≡ true → within y q ≡ true → within (E x y) (N p q) ≡ true
 
 -- both, of the rules for nodes and edges
 pub record Rules (N E : Making) (a b c : ℕ) : Type 0 where
   pub nodes : Sound N a b c
   pub edges : Sound E a b c
-  pub inside : Inside E N a b
+  pub inside : StaysWithin E N a b

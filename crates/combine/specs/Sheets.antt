@@ -16,7 +16,7 @@ use Rattle.combine.specs.declared.Rule.{Rule}
 use Rattle.combine.specs.Combined.{Making}
 use Rattle.combine.specs.declared.Measure.{Measure}
 use Rattle.combine.specs.Rules.{makes, Safe, Rules}
-use Rattle.combine.specs.Parts.{Surveyed, partRows}
+use Rattle.combine.specs.SheetTables.{Surveyed, partRows}
 
 -- t is a and b combined, as a sheet of so many offices
 pub record IsCombined (N E : Making) (offices : ℕ) (a b t : List ℕ) : Type 0 where

@@ -14,7 +14,7 @@ ghost use Rattle.sheet.specs.Limits.{maxNodes, maxEdges, sheetWords};
 ghost use Rattle.sheet.specs.Rows.{edgeTable, edgeAt};
 ghost use Rattle.combine.specs.Combined.{given};
 ghost use Rattle.combine.specs.Rules.{makes, Safe};
-ghost use Rattle.combine.specs.Parts.{countIn, rowAt, wordsAt, through, spelled, Inputs, Moves, Steps, Left, noted, partRows, Surveyed, Written, storedAt, takenWords};
+ghost use Rattle.combine.specs.SheetTables.{countIn, rowAt, wordsAt, through, spelled, Inputs, Moves, MarkedStep, Left, noted, partRows, Surveyed, Written, storedAt, takenWords};
 ghost use Rattle.combine.specs.Sheets.{Pair, Measured, Laid};
 
 // One number for each node row.
@@ -172,7 +172,7 @@ fn at(i: usize, j: usize) -> Passed
 }
 
 // The rows passed after the next key: that of the lower of the two next rows, or of both where they are the same.
-fn step(
+fn pass_key(
     part: Part,
     first: &[u32],
     h: Header,
@@ -211,9 +211,9 @@ fn go_on(
     j: usize,
 ) -> Next
     requires { ⌜ Inputs (now first) h (now second) g rule × Left part h g i j ⌝ }
-    ensures { λ r. ⌜ Steps rule part (now (first .entry)) h (now (second .entry)) g i j r ⌝ }
+    ensures { λ r. ⌜ MarkedStep rule part (now (first .entry)) h (now (second .entry)) g i j r ⌝ }
 {
-    let to = step(part, first, h, i, second, g, j);
+    let to = pass_key(part, first, h, i, second, g, j);
     let next_i = to.i;
     let next_j = to.j;
     let x = marks_given(part, first, h, i, next_i);

@@ -18,19 +18,19 @@ use Rattle.question.specs.Replies.{refusedBy, tells, Shows}
 use Rattle.counter.specs.Filed.{InBytes, in-bytes}
 
 -- bytes written, or 25
-pub data Written (bytes out : List ℕ) (r : Refusal) (out′ : List ℕ) : Type 0 where
-  all : r ≡ none → length bytes ≤ length out → out′ ≡ bytes ++ drop (length bytes) out → Written bytes out r out′
-  not-all : r ≡ plain 25 → length out < length bytes → out′ ≡ out → Written bytes out r out′
+pub data BytesWritten (bytes out : List ℕ) (r : Refusal) (out′ : List ℕ) : Type 0 where
+  all : r ≡ none → length bytes ≤ length out → out′ ≡ bytes ++ drop (length bytes) out → BytesWritten bytes out r out′
+  not-all : r ≡ plain 25 → length out < length bytes → out′ ≡ out → BytesWritten bytes out r out′
 
 not-25 : plain 25 .number ≡ 0 → ⊥
 unfolding refuse
 not-25 e = omega (arith, e)
 
-written-or : (bytes out : List ℕ) (r : Refusal) (out′ : List ℕ) → Writes none bytes out r out′ → Written bytes out r out′
+written-or : (bytes out : List ℕ) (r : Refusal) (out′ : List ℕ) → Writes none bytes out r out′ → BytesWritten bytes out r out′
 unfolding _then_ refuse written
 written-or bytes out r out′ w = go (decLt (length out) (length bytes))
   where
-    go : Dec (length out < length bytes) → Written bytes out r out′
+    go : Dec (length out < length bytes) → BytesWritten bytes out r out′
     go (yes l) = let e = w .told ∙ short-lacks (length out) (length bytes) l in not-all e l (w .holds ∙ ap (λ (x : Refusal). written (x .number) bytes out) e)
     go (no l) = let q = writes-room bytes out r out′ w (omega arith) in all (q .0) (omega arith) (q .1)
 
@@ -46,22 +46,22 @@ still-refused refusal R room a room′ (Shows.short ws y w l) fits z out = absur
 still-refused refusal R room a room′ (Shows.written ws y w l) fits z out = absurd (z refl)
 
 -- a question that is answered: the words stand in front
-pub record Found (refusal : Refusal) (R : List ℕ → Type 0) (room : List ℕ) (a : Answer) (room′ : List ℕ) : Type 0 where
+pub record WordsInFront (refusal : Refusal) (R : List ℕ → Type 0) (room : List ℕ) (a : Answer) (room′ : List ℕ) : Type 0 where
   pub stands : refusal .number ≡ 0
   pub fits : a .count ≤ length room
   pub long : length (take (a .count - 0) room′) ≡ a .count
   pub is : R (take (a .count - 0) room′)
 
-pub found : (refusal : Refusal) (R : List ℕ → Type 0) (room : List ℕ) (a : Answer) (room′ : List ℕ) → Shows refusal R room a room′ → a .number ≡ 0 → Found refusal R room a room′
+pub words-in-front : (refusal : Refusal) (R : List ℕ → Type 0) (room : List ℕ) (a : Answer) (room′ : List ℕ) → Shows refusal R room a room′ → a .number ≡ 0 → WordsInFront refusal R room a room′
 unfolding refuse
-found refusal R room a room′ (Shows.refused h) z = absurd (h z)
-found refusal R room a room′ (Shows.missing y n) z = absurd (omega (arith, z))
-found refusal R room a room′ (Shows.short ws y w l) z = absurd (omega (arith, z))
-found refusal R room a room′ (Shows.written ws y w l) z =
+words-in-front refusal R room a room′ (Shows.refused h) z = absurd (h z)
+words-in-front refusal R room a room′ (Shows.missing y n) z = absurd (omega (arith, z))
+words-in-front refusal R room a room′ (Shows.short ws y w l) z = absurd (omega (arith, z))
+words-in-front refusal R room a room′ (Shows.written ws y w l) z =
     let e : take (length ws - 0) (ws ++ drop (length ws) room) ≡ ws = take-at ws (drop (length ws) room) (length ws - 0) (omega arith) in
     record { stands = y; fits = l; long = ap length e; is = subst R (sym e) w }
 
-module _ (refusal : Refusal) (R : List ℕ → Type 0) (room : List ℕ) (a : Answer) (room′ : List ℕ) (x : Found refusal R room a room′) (out : List ℕ) (r : Refusal) (out′ : List ℕ)
+module _ (refusal : Refusal) (R : List ℕ → Type 0) (room : List ℕ) (a : Answer) (room′ : List ℕ) (x : WordsInFront refusal R room a room′) (out : List ℕ) (r : Refusal) (out′ : List ℕ)
     (w : Writes none (bytesOf (take (a .count - 0) room′)) out r out′) (b : Answer) where
   abbrev ws : List ℕ
   ws = take (a .count - 0) room′
@@ -72,7 +72,7 @@ module _ (refusal : Refusal) (R : List ℕ → Type 0) (room : List ℕ) (a : An
   pub bytes-short : (r .number ≡ 0 → ⊥) → b ≡ refusedBy r → Shows refusal (InBytes R) out b out′
   bytes-short z e = go (written-or (bytesOf ws) out r out′ w)
     where
-      go : Written (bytesOf ws) out r out′ → Shows refusal (InBytes R) out b out′
+      go : BytesWritten (bytesOf ws) out r out′ → Shows refusal (InBytes R) out b out′
       go (all q l o) = absurd (z (ap (λ (y : Refusal). y .number) q))
       go (not-all q l o) = same (refusedBy (plain 25)) out (e ∙ ap refusedBy q) o (Shows.short (bytesOf ws) (x .stands) (in-bytes ws (x .is)) l)
 
@@ -82,6 +82,6 @@ module _ (refusal : Refusal) (R : List ℕ → Type 0) (room : List ℕ) (a : An
       count : length (bytesOf ws) ≡ 4 * a .count
       count = omega (arith, bytes-long ws, x .long)
 
-      go : Written (bytesOf ws) out r out′ → Shows refusal (InBytes R) out b out′
+      go : BytesWritten (bytesOf ws) out r out′ → Shows refusal (InBytes R) out b out′
       go (all q l o) = same (tells 0 (length (bytesOf ws))) _ (e ∙ ap (tells 0) (sym count)) o (Shows.written (bytesOf ws) (x .stands) (in-bytes ws (x .is)) l)
       go (not-all q l o) = absurd (not-25 (sym (ap (λ (y : Refusal). y .number) q) ∙ z))

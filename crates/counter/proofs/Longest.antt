@@ -95,9 +95,9 @@ module _ (s : List ℕ) (acc : Accepted s) (office : ℕ) (side : Side) where
   g = seenAt s office
 
   -- a category that the office sees has a row
-  has-row : (c : ℕ) → g .node (category c) ≡ true → numbers (λ i. nodeAt s i .number) (headerOf s .nodes) c ≡ true
+  category-row : (c : ℕ) → g .node (category c) ≡ true → numbers (λ i. nodeAt s i .number) (headerOf s .nodes) c ≡ true
   unfolding nodeRow
-  has-row c e =
+  category-row c e =
       let r = node-seen s acc office (category c) e in
       let n : nodeAt s (r .row) .number ≡ c = cc (r .names) in
       some-at (λ i. eqb (nodeAt s i .number) c) (headerOf s .nodes) (r .row) (r .inside) (eq-eqb _ c n)
@@ -131,7 +131,7 @@ module _ (s : List ℕ) (acc : Accepted s) (office : ℕ) (side : Side) where
           let m = and-left (member g p c) _ q in
           let l = and-right (member g p c) _ q in
           as-many-rows (step g side) (carries g side d v f) (λ i. nodeAt s i .number) (headerOf s .nodes) c cs l
-          (λ x y. has-row x (all-seen (carries g side d v f) c cs (ends-seen s acc office 1 1 p 0 2 c 0 m .1) l x y))
+          (λ x y. category-row x (all-seen (carries g side d v f) c cs (ends-seen s acc office 1 1 p 0 2 c 0 m .1) l x y))
 
 -- so no witness of a sheet that is not refused has more words than are kept for one
 pub witness-fits : (s : List ℕ) (k office : ℕ) (side : Side) (p d f : ℕ) (ws : List ℕ) → afterSheet s k .number ≡ 0 → WitnessIs (seenAt s office) side p d f ws → length ws ≤ 2 * (maxNodes + 3)

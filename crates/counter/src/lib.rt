@@ -14,12 +14,12 @@ ghost use Rattle.files.specs.Bytes.{wordsOf, bytesOf, bytesFault, bytesVerdict}
 ghost use Rattle.question.specs.Asked.{askFault, afterSheet};
 ghost use Rattle.question.specs.Replies.{Shows};
 ghost use Rattle.lookup.specs.Looked.{lookFault, PlacesIdentity};
-ghost use Rattle.join.specs.Joined.{Joining};
+ghost use Rattle.join.specs.Joins.{Joining};
 ghost use Rattle.takeout.specs.Promises.{TakesOut};
 ghost use Rattle.join_files.specs.JoinedFiles.{JoinsFiles};
 ghost use Rattle.ask.specs.Promises.{AnswersAtOffice, AnswersJointly, WitnessOf, Witnesses};
 ghost use Rattle.claim.specs.Promises.{TellsPath};
-ghost use Rattle.lists.specs.Promises.{ListsPersons, ListsHolders, ListsUnreached, ShowsLeastBoth, ShowsLeastPair, ListsRedundant};
+ghost use Rattle.lists.specs.Promises.{ListsPersonsInCategory, ListsPersonsWithGrant, ListsFoliosOutOfReach, ShowsLeastTriple, ShowsLeastHolder, ListsRedundantEdges};
 ghost use Rattle.counter.specs.Filed.{asking, seeking, WasRead, afterFile, InBytes};
 
 // No witness is longer: a person, a deed and a folio, and categories, each with a row of its own.
@@ -290,7 +290,7 @@ pub extern "C" fn tormukai_persons_in_category(
     category: u32,
     out: &mut [u32],
 ) -> Answer
-    ensures { λ a. ⌜ ListsPersons (now (sheet .entry)) (seeking office category 0 0 0) (now (out .entry)) a (now (out .exit)) ⌝ }
+    ensures { λ a. ⌜ ListsPersonsInCategory (now (sheet .entry)) (seeking office category 0 0 0) (now (out .entry)) a (now (out .exit)) ⌝ }
 {
     let q = Question {
         office: office,
@@ -314,7 +314,7 @@ pub extern "C" fn tormukai_persons_with_grant(
     folio: u32,
     out: &mut [u32],
 ) -> Answer
-    ensures { λ a. ⌜ ListsHolders (now (sheet .entry)) (seeking office 0 deed 0 folio) (now (out .entry)) a (now (out .exit)) ⌝ }
+    ensures { λ a. ⌜ ListsPersonsWithGrant (now (sheet .entry)) (seeking office 0 deed 0 folio) (now (out .entry)) a (now (out .exit)) ⌝ }
 {
     let q = Question {
         office: office,
@@ -336,7 +336,7 @@ pub extern "C" fn tormukai_folios_out_of_reach(
     office: u32,
     out: &mut [u32],
 ) -> Answer
-    ensures { λ a. ⌜ ListsUnreached (now (sheet .entry)) (seeking office 0 0 0 0) (now (out .entry)) a (now (out .exit)) ⌝ }
+    ensures { λ a. ⌜ ListsFoliosOutOfReach (now (sheet .entry)) (seeking office 0 0 0 0) (now (out .entry)) a (now (out .exit)) ⌝ }
 {
     let q = Question {
         office: office,
@@ -354,7 +354,7 @@ pub extern "C" fn tormukai_folios_out_of_reach(
 // Question 8, the least person, deed and folio that are Both: three words.
 #[no_mangle]
 pub extern "C" fn tormukai_least_triple(sheet: &[u32], office: u32, out: &mut [u32]) -> Answer
-    ensures { λ a. ⌜ ShowsLeastBoth (now (sheet .entry)) (seeking office 0 0 0 0) (now (out .entry)) a (now (out .exit)) ⌝ }
+    ensures { λ a. ⌜ ShowsLeastTriple (now (sheet .entry)) (seeking office 0 0 0 0) (now (out .entry)) a (now (out .exit)) ⌝ }
 {
     let q = Question {
         office: office,
@@ -378,7 +378,7 @@ pub extern "C" fn tormukai_least_holder(
     other: u32,
     out: &mut [u32],
 ) -> Answer
-    ensures { λ a. ⌜ ShowsLeastPair (now (sheet .entry)) (seeking office 0 deed other 0) (now (out .entry)) a (now (out .exit)) ⌝ }
+    ensures { λ a. ⌜ ShowsLeastHolder (now (sheet .entry)) (seeking office 0 deed other 0) (now (out .entry)) a (now (out .exit)) ⌝ }
 {
     let q = Question {
         office: office,
@@ -396,7 +396,7 @@ pub extern "C" fn tormukai_least_holder(
 // Question 10, the redundant edge rows, rising; how many in `count`.
 #[no_mangle]
 pub extern "C" fn tormukai_redundant_edges(sheet: &[u32], office: u32, out: &mut [u32]) -> Answer
-    ensures { λ a. ⌜ ListsRedundant (now (sheet .entry)) (seeking office 0 0 0 0) (now (out .entry)) a (now (out .exit)) ⌝ }
+    ensures { λ a. ⌜ ListsRedundantEdges (now (sheet .entry)) (seeking office 0 0 0 0) (now (out .entry)) a (now (out .exit)) ⌝ }
 {
     let q = Question {
         office: office,

@@ -11,7 +11,7 @@ use Rattle.tables.specs.Office.{View}
 use Rattle.sheet.specs.declared.Refusal.{Refusal}
 use Rattle.sheet.specs.Refusals.{refuse}
 use Rattle.meaning.specs.Paths.{Side, grant, ban, HasPath}
-use Rattle.meaning.specs.Answers.{Says, answered as number-of, AnswerIs, gives, told, other, JointIs}
+use Rattle.meaning.specs.Answers.{Says, answered as number-of, AnswerIs, gives, sideAnswer, other, JointAnswerIs}
 use Rattle.meaning.specs.Source.{Authorised, Prior, Yields, Applicable}
 use Rattle.meaning.proofs.Axioms.{a1-a2, says}
 use Rattle.meaning.specs.Deciding.{SideFirst, FirstApplies}
@@ -50,21 +50,21 @@ module _ (g : View) (p d f v : ℕ) (x : AnswerIs g p d f v) where
       go true e h = e
       go false e h = absurd (subst (λ (b : Bool). Says b (HasPath g side p d f)) e (says g p d f side v x) h)
 
-module _ (at : ℕ → View) (n p d f rule v c : ℕ) (x : JointIs at n rule p d f (record { answer = v; office = c })) where
+module _ (at : ℕ → View) (n p d f rule v c : ℕ) (x : JointAnswerIs at n rule p d f (record { answer = v; office = c })) where
   -- rules 1 and 2, one law over the side
-  pub by-priority : (side : Side) → rule ≡ told side → ((v ≡ told side) ↔ Prior at n side p d f) × ((v ≡ told (other side)) ↔ Yields at n side p d f)
-  by-priority grant e = grant-first at n p d f (record { answer = v; office = c }) (subst (λ (r : ℕ). JointIs at n r p d f (record { answer = v; office = c })) e x)
-  by-priority ban e = deny-first at n p d f (record { answer = v; office = c }) (subst (λ (r : ℕ). JointIs at n r p d f (record { answer = v; office = c })) e x)
+  pub by-priority : (side : Side) → rule ≡ sideAnswer side → ((v ≡ sideAnswer side) ↔ Prior at n side p d f) × ((v ≡ sideAnswer (other side)) ↔ Yields at n side p d f)
+  by-priority grant e = grant-first at n p d f (record { answer = v; office = c }) (subst (λ (r : ℕ). JointAnswerIs at n r p d f (record { answer = v; office = c })) e x)
+  by-priority ban e = deny-first at n p d f (record { answer = v; office = c }) (subst (λ (r : ℕ). JointAnswerIs at n r p d f (record { answer = v; office = c })) e x)
 
   pub by-order : rule ≡ 3 → (side : Side) → (gives side v ≡ true) ↔ Applicable at n side p d f
-  by-order e = first-applicable at n p d f (record { answer = v; office = c }) (subst (λ (r : ℕ). JointIs at n r p d f (record { answer = v; office = c })) e x)
+  by-order e = first-applicable at n p d f (record { answer = v; office = c }) (subst (λ (r : ℕ). JointAnswerIs at n r p d f (record { answer = v; office = c })) e x)
 
   -- with the office that decides
-  pub side-decides : (side : Side) → rule ≡ told side → SideFirst at n p d f side (record { answer = v; office = c })
-  side-decides side e = first-decides at n p d f (record { answer = v; office = c }) side (subst (λ (r : ℕ). JointIs at n r p d f (record { answer = v; office = c })) e x)
+  pub side-decides : (side : Side) → rule ≡ sideAnswer side → SideFirst at n p d f side (record { answer = v; office = c })
+  side-decides side e = first-decides at n p d f (record { answer = v; office = c }) side (subst (λ (r : ℕ). JointAnswerIs at n r p d f (record { answer = v; office = c })) e x)
 
   pub first-decided : rule ≡ 3 → FirstApplies at n p d f (record { answer = v; office = c })
-  first-decided e = order-decides at n p d f (record { answer = v; office = c }) (subst (λ (r : ℕ). JointIs at n r p d f (record { answer = v; office = c })) e x)
+  first-decided e = order-decides at n p d f (record { answer = v; office = c }) (subst (λ (r : ℕ). JointAnswerIs at n r p d f (record { answer = v; office = c })) e x)
 
 -- 0 for no
 pub no-is : (b : Bool) (v : ℕ) → v ≡ numberOf b → (v ≡ 0) ↔ ((b ≡ true) → ⊥)

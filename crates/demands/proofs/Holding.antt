@@ -22,20 +22,20 @@ use Rattle.meaning.specs.Questions.{BothAt, HoldsBoth}
 use Rattle.meaning.specs.Join.{officesOf, IsJoin}
 use Rattle.meaning.proofs.Joins.{taken-one}
 use Rattle.meaning.proofs.Sites.{union-nodes, union-edges}
-use Rattle.meaning.proofs.Unique.{witness-one, persons-one, holders-one, unreached-one, least-both-one, least-pair-one, redundant-one}
+use Rattle.meaning.proofs.Unique.{witness-one, persons-in-category-one, persons-with-grant-one, folios-out-of-reach-one, least-triple-one, least-holder-one, redundant-edges-one}
 use Rattle.question.specs.declared.Question.{Question}
 use Rattle.question.specs.declared.Answer.{Answer}
 use Rattle.question.specs.Asked.{asked, sideOf}
 use Rattle.lookup.proofs.Looking.{both-accepted}
 use Rattle.ask.specs.Promises.{WitnessOf}
 use Rattle.opened.specs.declared.Which.{Which}
-use Rattle.opened.specs.declared.Which.the-variants.{AtOffice, Joint, Witness, PersonsInCategory, PersonsWithGrant, FoliosOutOfReach, LeastTriple, LeastHolder, RedundantEdges}
-use Rattle.opened.specs.Asking.{questionOf, Answers}
+use Rattle.opened.specs.declared.Which.the-variants.{AnswerAtOffice, JointAnswer, Witness, PersonsInCategory, PersonsWithGrant, FoliosOutOfReach, LeastTriple, LeastHolder, RedundantEdges}
+use Rattle.opened.specs.Asking.{questionOf, Promised}
 use Rattle.files.specs.Bytes.{wordsOf}
 use Rattle.counter.proofs.Single.{bytes-one}
 use Rattle.lookup.specs.Looked.{lookFault, LooksUp, refused, in-first, in-second}
 use Rattle.join.specs.declared.Joined.{Joined}
-use Rattle.join.specs.Joined.{unionNodes, unionEdges, sheetsFault, unionFault, joinFault, Joining, joined, refused as not-joined}
+use Rattle.join.specs.Joins.{unionNodes, unionEdges, sheetsFault, unionFault, joinFault, Joining, joined, refused as not-joined}
 use Rattle.join.proofs.Refusing.{none-refused, in-none, union-passes}
 use Rattle.takeout.proofs.Back.{first-taken, second-taken}
 use Rattle.joint.proofs.Demand.{no-two-pairs, joins-again, asked-combined}
@@ -58,10 +58,10 @@ look a b k (refused h) = (λ e. h, λ h′. refl)
 look a b k (in-first i z l e) = (λ n. absurd (row-some (a .words) i (both-accepted (a .words) (b .words) k _ refl z .0) l n), λ h. absurd (h z))
 look a b k (in-second i z m l e) = (λ n. absurd (row-some (b .words) i (both-accepted (a .words) (b .words) k _ refl z .1) l n), λ h. absurd (h z))
 
-as-words : (which : Which) (s : List ℕ) (q : Question) (out : List ℕ) (a : Answer) (out′ : List ℕ) → Answers (questionOf which) s q out a out′ → OfWords which s q out a out′
-unfolding questionOf Answers
-as-words AtOffice s q out a out′ x = x
-as-words Joint s q out a out′ x = x
+as-words : (which : Which) (s : List ℕ) (q : Question) (out : List ℕ) (a : Answer) (out′ : List ℕ) → Promised (questionOf which) s q out a out′ → OfWords which s q out a out′
+unfolding questionOf Promised
+as-words AnswerAtOffice s q out a out′ x = x
+as-words JointAnswer s q out a out′ x = x
 as-words Witness s q out a out′ x = x
 as-words PersonsInCategory s q out a out′ x = x
 as-words PersonsWithGrant s q out a out′ x = x
@@ -76,12 +76,12 @@ demand-1 = record {
   question-2 = λ s q x. sheet-says s _ _ x;
   question-3 = λ s q out x. shows-keep _ _ (witness-one (asked s q) (sideOf (q .kind)) (q .person) (q .deed) (q .folio)) out x;
   question-4 = λ s q list x. sheet-says s _ _ x;
-  question-5 = λ s q out x. shows-keep _ _ (persons-one (asked s q) (q .category)) out x;
-  question-6 = λ s q out x. shows-keep _ _ (holders-one (asked s q) (q .deed) (q .folio)) out x;
-  question-7 = λ s q out x. shows-keep _ _ (unreached-one (asked s q)) out x;
-  question-8 = λ s q out x. shows-keep _ _ (least-both-one (asked s q)) out x;
-  question-9 = λ s q out x. shows-keep _ _ (least-pair-one (asked s q) (q .deed) (q .other)) out x;
-  question-10 = λ s q out x. shows-keep _ _ (redundant-one s (q .office)) out x;
+  question-5 = λ s q out x. shows-keep _ _ (persons-in-category-one (asked s q) (q .category)) out x;
+  question-6 = λ s q out x. shows-keep _ _ (persons-with-grant-one (asked s q) (q .deed) (q .folio)) out x;
+  question-7 = λ s q out x. shows-keep _ _ (folios-out-of-reach-one (asked s q)) out x;
+  question-8 = λ s q out x. shows-keep _ _ (least-triple-one (asked s q)) out x;
+  question-9 = λ s q out x. shows-keep _ _ (least-holder-one (asked s q) (q .deed) (q .other)) out x;
+  question-10 = λ s q out x. shows-keep _ _ (redundant-edges-one s (q .office)) out x;
   take-out = λ s office out x. shows-keep _ _ (taken-one s (office - 1) 1) out x;
   join = λ a b out x. joins-keep a b out x;
   join-files = λ f g out x. files-keep f g out x;
@@ -112,17 +112,17 @@ demand-2 = record {
       let n = none-in-bytes (WitnessOf (wordsOf f) q) in
       (λ e. none-first (PathOf (wordsOf f) q) (n .0 (w .0 e)), λ u. w .1 (n .1 (λ ws y. u ws (y .holds))));
   is-path = λ s q list x z. (yes-is _ _ (told-is _ _ x z .0), no-is _ _ (told-is _ _ x z .0));
-  persons = λ s q out x. front-is _ _ out x;
-  holders = λ s q out x. front-is _ _ out x;
-  unreached = λ s q out x. front-is _ _ out x;
-  redundant = λ s q out x. front-is _ _ out x;
-  least-both = λ s q out x. (
+  persons-in-category = λ s q out x. front-is _ _ out x;
+  persons-with-grant = λ s q out x. front-is _ _ out x;
+  folios-out-of-reach = λ s q out x. front-is _ _ out x;
+  redundant-edges = λ s q out x. front-is _ _ out x;
+  least-triple = λ s q out x. (
     front-is _ _ out x,
     λ z.
         let w = missing-only _ _ out z x in
         (λ e. none-least 3 (BothAt (asked s q)) (λ ws y. ap length (y .words)) (w .0 e), λ u. w .1 (λ ws y. u ws (y .holds))),
   );
-  least-pair = λ s q out x. (
+  least-holder = λ s q out x. (
     front-is _ _ out x,
     λ z.
         let w = missing-only _ _ out z x in

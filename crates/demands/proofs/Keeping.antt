@@ -17,7 +17,7 @@ use Rattle.counter.specs.Filed.{afterFile}
 use Rattle.tables.specs.Key.{Key}
 use Rattle.lookup.specs.Looked.{neither, lookFault, StandsIn, PlacesIdentity}
 use Rattle.join.specs.declared.Joined.{Joined}
-use Rattle.join.specs.Joined.{tooMuch, unionNodes, unionEdges, sheetsFault, unionFault, joinFault, JoinsAs, Joining, joined, refused as not-joined}
+use Rattle.join.specs.Joins.{tooMuch, unionNodes, unionEdges, sheetsFault, unionFault, joinFault, JoinsAs, Joining, joined, refused as not-joined}
 use Rattle.join_files.specs.JoinedFiles.{filesFault, JoinsFiles}
 use Rattle.demands.specs.Demands.{saidIn, saidOf, Judged, by-the-table, no-such, too-short, not-refused, Keeps}
 

@@ -17,10 +17,10 @@ use Rattle.sheet.specs.Rows.{headerOf}
 use Rattle.sheet.specs.Accepted.{Accepted}
 use Rattle.sheet.specs.Named.{tablesOf, seenAt}
 use Rattle.meaning.specs.Paths.{Side, isPath}
-use Rattle.meaning.specs.Answers.{gives, told, other, Joint as JointAnswer, jointly}
+use Rattle.meaning.specs.Answers.{firstApplicableRule, firstRule, gives, sideAnswer, other, Joint, jointly}
 use Rattle.meaning.specs.Deciding.{SideFirst, FirstApplies}
 use Rattle.meaning.specs.Forms.{fewer}
-use Rattle.meaning.specs.Questions.{PersonsAre, HoldersAre, UnreachedAre, BothAt, LeastBothIs, HoldsBoth, LeastPairIs, RedundantAre}
+use Rattle.meaning.specs.Questions.{PersonsInCategoryAre, PersonsWithGrantAre, FoliosOutOfReachAre, BothAt, LeastTripleIs, HoldsBoth, LeastHolderIs, RedundantEdgesAre}
 use Rattle.meaning.specs.Join.{officesOf, IsJoin, IsTaken}
 use Rattle.meaning.specs.Source.{Authorised, Prior, Yields, Applicable}
 use Rattle.question.specs.declared.Question.{Question}
@@ -30,15 +30,15 @@ use Rattle.question.specs.Replies.{tells, Shows}
 use Rattle.ask.specs.Promises.{AnswersAtOffice, AnswersJointly, WitnessOf, Witnesses, atFirst}
 use Rattle.claim.specs.Promises.{TellsPath}
 use Rattle.lists.specs.Sought.{unknownCategory, unknownRight, badPair}
-use Rattle.lists.specs.Promises.{ListsPersons, ListsHolders, ListsUnreached, ShowsLeastBoth, ShowsLeastPair, ListsRedundant}
+use Rattle.lists.specs.Promises.{ListsPersonsInCategory, ListsPersonsWithGrant, ListsFoliosOutOfReach, ShowsLeastTriple, ShowsLeastHolder, ListsRedundantEdges}
 use Rattle.opened.specs.declared.Which.{Which}
-use Rattle.opened.specs.declared.Which.the-variants.{AtOffice, Joint, Witness, PersonsInCategory, PersonsWithGrant, FoliosOutOfReach, LeastTriple, LeastHolder, RedundantEdges}
-use Rattle.opened.specs.Asking.{questionOf, Answers}
+use Rattle.opened.specs.declared.Which.the-variants.{AnswerAtOffice, JointAnswer, Witness, PersonsInCategory, PersonsWithGrant, FoliosOutOfReach, LeastTriple, LeastHolder, RedundantEdges}
+use Rattle.opened.specs.Asking.{questionOf, Promised}
 use Rattle.files.specs.Bytes.{wordsOf}
 use Rattle.counter.specs.Filed.{afterFile, InBytes}
 use Rattle.lookup.specs.Looked.{lookFault, LooksUp, PlacesIdentity}
 use Rattle.join.specs.declared.Joined.{Joined}
-use Rattle.join.specs.Joined.{sharedNodes, sharedEdges, unionNodes, unionEdges, joinFault, Joining}
+use Rattle.join.specs.Joins.{sharedNodes, sharedEdges, unionNodes, unionEdges, joinFault, Joining}
 use Rattle.join_files.specs.JoinedFiles.{filesFault, JoinsFiles}
 use Rattle.takeout.specs.Promises.{TakesOut}
 
@@ -70,15 +70,15 @@ KeepsTable after k R out a out′ = Keeps (Judged (after k) R (length out)) (sai
 
 -- what the entry for a question promises of bare words
 abbrev pub OfWords : Which → List ℕ → Question → List ℕ → Answer → List ℕ → Type 0
-OfWords AtOffice s q out a out′ = AnswersAtOffice (afterSheet s) s q a × (out′ ≡ out)
-OfWords Joint s q out a out′ = AnswersJointly (afterSheet s) s q a × (out′ ≡ out)
+OfWords AnswerAtOffice s q out a out′ = AnswersAtOffice (afterSheet s) s q a × (out′ ≡ out)
+OfWords JointAnswer s q out a out′ = AnswersJointly (afterSheet s) s q a × (out′ ≡ out)
 OfWords Witness s q out a out′ = Witnesses s q out a out′
-OfWords PersonsInCategory s q out a out′ = ListsPersons s q out a out′
-OfWords PersonsWithGrant s q out a out′ = ListsHolders s q out a out′
-OfWords FoliosOutOfReach s q out a out′ = ListsUnreached s q out a out′
-OfWords LeastTriple s q out a out′ = ShowsLeastBoth s q out a out′
-OfWords LeastHolder s q out a out′ = ShowsLeastPair s q out a out′
-OfWords RedundantEdges s q out a out′ = ListsRedundant s q out a out′
+OfWords PersonsInCategory s q out a out′ = ListsPersonsInCategory s q out a out′
+OfWords PersonsWithGrant s q out a out′ = ListsPersonsWithGrant s q out a out′
+OfWords FoliosOutOfReach s q out a out′ = ListsFoliosOutOfReach s q out a out′
+OfWords LeastTriple s q out a out′ = ShowsLeastTriple s q out a out′
+OfWords LeastHolder s q out a out′ = ShowsLeastHolder s q out a out′
+OfWords RedundantEdges s q out a out′ = ListsRedundantEdges s q out a out′
 
 pub record Demand1 : Type 0 where
   pub question-1 : (s : List ℕ) (q : Question) {a : Answer} → AnswersAtOffice (afterSheet s) s q a → saidIn a ≡ afterSheet s (askFault s q)
@@ -87,18 +87,18 @@ pub record Demand1 : Type 0 where
       → KeepsTable (afterSheet s) (askFault s q) (WitnessOf s q) out a out′
   -- it refuses only for the sheet and office
   pub question-4 : (s : List ℕ) (q : Question) (list : List ℕ) {a : Answer} → TellsPath s q list a → saidIn a ≡ afterSheet s (badOffice (headerOf s) (q .office))
-  pub question-5 : (s : List ℕ) (q : Question) (out : List ℕ) {a : Answer} {out′ : List ℕ} → ListsPersons s q out a out′
-      → KeepsTable (afterSheet s) (badOffice (headerOf s) (q .office) orElse unknownCategory s q) (PersonsAre (asked s q) (q .category)) out a out′
-  pub question-6 : (s : List ℕ) (q : Question) (out : List ℕ) {a : Answer} {out′ : List ℕ} → ListsHolders s q out a out′
-      → KeepsTable (afterSheet s) (badOffice (headerOf s) (q .office) orElse unknownRight s q) (HoldersAre (asked s q) (q .deed) (q .folio)) out a out′
-  pub question-7 : (s : List ℕ) (q : Question) (out : List ℕ) {a : Answer} {out′ : List ℕ} → ListsUnreached s q out a out′
-      → KeepsTable (afterSheet s) (badOffice (headerOf s) (q .office)) (UnreachedAre (asked s q)) out a out′
-  pub question-8 : (s : List ℕ) (q : Question) (out : List ℕ) {a : Answer} {out′ : List ℕ} → ShowsLeastBoth s q out a out′
-      → KeepsTable (afterSheet s) (badOffice (headerOf s) (q .office)) (LeastBothIs (asked s q)) out a out′
-  pub question-9 : (s : List ℕ) (q : Question) (out : List ℕ) {a : Answer} {out′ : List ℕ} → ShowsLeastPair s q out a out′
-      → KeepsTable (afterSheet s) (badOffice (headerOf s) (q .office) orElse badPair s q) (LeastPairIs (asked s q) (q .deed) (q .other)) out a out′
-  pub question-10 : (s : List ℕ) (q : Question) (out : List ℕ) {a : Answer} {out′ : List ℕ} → ListsRedundant s q out a out′
-      → KeepsTable (afterSheet s) (badOffice (headerOf s) (q .office)) (RedundantAre s (q .office)) out a out′
+  pub question-5 : (s : List ℕ) (q : Question) (out : List ℕ) {a : Answer} {out′ : List ℕ} → ListsPersonsInCategory s q out a out′
+      → KeepsTable (afterSheet s) (badOffice (headerOf s) (q .office) orElse unknownCategory s q) (PersonsInCategoryAre (asked s q) (q .category)) out a out′
+  pub question-6 : (s : List ℕ) (q : Question) (out : List ℕ) {a : Answer} {out′ : List ℕ} → ListsPersonsWithGrant s q out a out′
+      → KeepsTable (afterSheet s) (badOffice (headerOf s) (q .office) orElse unknownRight s q) (PersonsWithGrantAre (asked s q) (q .deed) (q .folio)) out a out′
+  pub question-7 : (s : List ℕ) (q : Question) (out : List ℕ) {a : Answer} {out′ : List ℕ} → ListsFoliosOutOfReach s q out a out′
+      → KeepsTable (afterSheet s) (badOffice (headerOf s) (q .office)) (FoliosOutOfReachAre (asked s q)) out a out′
+  pub question-8 : (s : List ℕ) (q : Question) (out : List ℕ) {a : Answer} {out′ : List ℕ} → ShowsLeastTriple s q out a out′
+      → KeepsTable (afterSheet s) (badOffice (headerOf s) (q .office)) (LeastTripleIs (asked s q)) out a out′
+  pub question-9 : (s : List ℕ) (q : Question) (out : List ℕ) {a : Answer} {out′ : List ℕ} → ShowsLeastHolder s q out a out′
+      → KeepsTable (afterSheet s) (badOffice (headerOf s) (q .office) orElse badPair s q) (LeastHolderIs (asked s q) (q .deed) (q .other)) out a out′
+  pub question-10 : (s : List ℕ) (q : Question) (out : List ℕ) {a : Answer} {out′ : List ℕ} → ListsRedundantEdges s q out a out′
+      → KeepsTable (afterSheet s) (badOffice (headerOf s) (q .office)) (RedundantEdgesAre s (q .office)) out a out′
   pub take-out : (s : List ℕ) (office : ℕ) (out : List ℕ) {a : Answer} {out′ : List ℕ} → TakesOut s office out a out′
       → KeepsTable (afterSheet s) (badOffice (headerOf s) office) (IsTaken s (office - 1) 1) out a out′
   -- 28 to 30 and 25 are lines of its table
@@ -106,7 +106,7 @@ pub record Demand1 : Type 0 where
   -- of two files: 33 and 1 to 17 of the first, then of the second
   pub join-files : (f g out : List ℕ) {r : Joined} {out′ : List ℕ} → JoinsFiles f g out r out′ → Keeps (λ x. x ≡ filesFault f g (length out)) (saidOf r) out out′
   -- an opened sheet, whatever its counts say, promises what the entries above do of the words that it holds
-  pub opened : (which : Which) (s : List ℕ) (q : Question) (out : List ℕ) (a : Answer) (out′ : List ℕ) → Answers (questionOf which) s q out a out′ → OfWords which s q out a out′
+  pub opened : (which : Which) (s : List ℕ) (q : Question) (out : List ℕ) (a : Answer) (out′ : List ℕ) → Promised (questionOf which) s q out a out′ → OfWords which s q out a out′
   -- by the counter, of a file's bytes: 33 first, then the sheet's, then the question's
   pub counter-1 : (f : List ℕ) (q : Question) {a : Answer} → AnswersAtOffice (afterFile f) (wordsOf f) q a → saidIn a ≡ afterFile f (askFault (wordsOf f) q)
   pub counter-2 : (f : List ℕ) (q : Question) {a : Answer} → AnswersJointly (afterFile f) (wordsOf f) q a → saidIn a ≡ afterFile f (jointFault (wordsOf f) q)
@@ -123,7 +123,7 @@ abbrev pub front : Answer → List ℕ → List ℕ
 front a out = take (a .count) out
 
 -- what an answer tells of all offices: its value, and the office that decides in its count
-abbrev pub jointIn : Answer → JointAnswer
+abbrev pub jointIn : Answer → Joint
 jointIn a = record { answer = a .value; office = a .count }
 
 -- words are a grant or ban path as the question names it, at the office asked
@@ -136,17 +136,17 @@ pub record Demand2 : Type 0 where
   pub answers : (after : ℕ → Refusal) (s : List ℕ) (q : Question) {a : Answer} → AnswersAtOffice after s q a → a .number ≡ 0
       → (a .value < 4) × ((side : Side) → (gives side (a .value) ≡ true) ↔ Authorised (asked s q) side (q .person) (q .deed) (q .folio))
   -- grant-first (rule 1) and deny-first (rule 2): their side where some office has it, else the other where some office has that, else undetermined; decided by the lowest office that has it, 0 where undetermined
-  pub side-first : (after : ℕ → Refusal) (s : List ℕ) (q : Question) {a : Answer} → AnswersJointly after s q a → a .number ≡ 0 → (side : Side) → q .rule ≡ told side
+  pub side-first : (after : ℕ → Refusal) (s : List ℕ) (q : Question) {a : Answer} → AnswersJointly after s q a → a .number ≡ 0 → (side : Side) → q .rule ≡ firstRule side
       → SideFirst (seenAt s) (officesOf s) (q .person) (q .deed) (q .folio) side (jointIn a)
   -- first-applicable (rule 3): the answer of the lowest office that isn't undetermined, Both included, and that office; else undetermined, by office 0
-  pub order-first : (after : ℕ → Refusal) (s : List ℕ) (q : Question) {a : Answer} → AnswersJointly after s q a → a .number ≡ 0 → q .rule ≡ 3
+  pub order-first : (after : ℕ → Refusal) (s : List ℕ) (q : Question) {a : Answer} → AnswersJointly after s q a → a .number ≡ 0 → q .rule ≡ firstApplicableRule
       → FirstApplies (seenAt s) (officesOf s) (q .person) (q .deed) (q .folio) (jointIn a)
   -- the same in the source's own relations, Definition 34: priority to a side ..
-  pub priority : (after : ℕ → Refusal) (s : List ℕ) (q : Question) {a : Answer} → AnswersJointly after s q a → a .number ≡ 0 → (side : Side) → q .rule ≡ told side
-      → ((a .value ≡ told side) ↔ Prior (seenAt s) (officesOf s) side (q .person) (q .deed) (q .folio))
-      × ((a .value ≡ told (other side)) ↔ Yields (seenAt s) (officesOf s) side (q .person) (q .deed) (q .folio))
+  pub priority : (after : ℕ → Refusal) (s : List ℕ) (q : Question) {a : Answer} → AnswersJointly after s q a → a .number ≡ 0 → (side : Side) → q .rule ≡ firstRule side
+      → ((a .value ≡ sideAnswer side) ↔ Prior (seenAt s) (officesOf s) side (q .person) (q .deed) (q .folio))
+      × ((a .value ≡ sideAnswer (other side)) ↔ Yields (seenAt s) (officesOf s) side (q .person) (q .deed) (q .folio))
   -- .. and first-applicable
-  pub applicable : (after : ℕ → Refusal) (s : List ℕ) (q : Question) {a : Answer} → AnswersJointly after s q a → a .number ≡ 0 → q .rule ≡ 3
+  pub applicable : (after : ℕ → Refusal) (s : List ℕ) (q : Question) {a : Answer} → AnswersJointly after s q a → a .number ≡ 0 → q .rule ≡ firstApplicableRule
       → (side : Side) → (gives side (a .value) ≡ true) ↔ Applicable (seenAt s) (officesOf s) side (q .person) (q .deed) (q .folio)
   -- the path shown is one, and none has fewer nodes, or as many and comes before it in dictionary order
   pub shortest : (s : List ℕ) (q : Question) (out : List ℕ) {a : Answer} {out′ : List ℕ} → Witnesses s q out a out′ → a .number ≡ 0
@@ -163,16 +163,16 @@ pub record Demand2 : Type 0 where
   pub is-path : (s : List ℕ) (q : Question) (list : List ℕ) {a : Answer} → TellsPath s q list a → a .number ≡ 0
       → ((a .value ≡ 1) ↔ PathOf s q list) × ((a .value ≡ 0) ↔ (PathOf s q list → ⊥))
   -- the lists are exactly these, rising
-  pub persons : (s : List ℕ) (q : Question) (out : List ℕ) {a : Answer} {out′ : List ℕ} → ListsPersons s q out a out′ → a .number ≡ 0 → PersonsAre (asked s q) (q .category) (front a out′)
-  pub holders : (s : List ℕ) (q : Question) (out : List ℕ) {a : Answer} {out′ : List ℕ} → ListsHolders s q out a out′ → a .number ≡ 0 → HoldersAre (asked s q) (q .deed) (q .folio) (front a out′)
-  pub unreached : (s : List ℕ) (q : Question) (out : List ℕ) {a : Answer} {out′ : List ℕ} → ListsUnreached s q out a out′ → a .number ≡ 0 → UnreachedAre (asked s q) (front a out′)
-  pub redundant : (s : List ℕ) (q : Question) (out : List ℕ) {a : Answer} {out′ : List ℕ} → ListsRedundant s q out a out′ → a .number ≡ 0 → RedundantAre s (q .office) (front a out′)
+  pub persons-in-category : (s : List ℕ) (q : Question) (out : List ℕ) {a : Answer} {out′ : List ℕ} → ListsPersonsInCategory s q out a out′ → a .number ≡ 0 → PersonsInCategoryAre (asked s q) (q .category) (front a out′)
+  pub persons-with-grant : (s : List ℕ) (q : Question) (out : List ℕ) {a : Answer} {out′ : List ℕ} → ListsPersonsWithGrant s q out a out′ → a .number ≡ 0 → PersonsWithGrantAre (asked s q) (q .deed) (q .folio) (front a out′)
+  pub folios-out-of-reach : (s : List ℕ) (q : Question) (out : List ℕ) {a : Answer} {out′ : List ℕ} → ListsFoliosOutOfReach s q out a out′ → a .number ≡ 0 → FoliosOutOfReachAre (asked s q) (front a out′)
+  pub redundant-edges : (s : List ℕ) (q : Question) (out : List ℕ) {a : Answer} {out′ : List ℕ} → ListsRedundantEdges s q out a out′ → a .number ≡ 0 → RedundantEdgesAre s (q .office) (front a out′)
   -- the least triple and the least pair, refused by 26 only where there is none
-  pub least-both : (s : List ℕ) (q : Question) (out : List ℕ) {a : Answer} {out′ : List ℕ} → ShowsLeastBoth s q out a out′
-      → (a .number ≡ 0 → LeastBothIs (asked s q) (front a out′))
+  pub least-triple : (s : List ℕ) (q : Question) (out : List ℕ) {a : Answer} {out′ : List ℕ} → ShowsLeastTriple s q out a out′
+      → (a .number ≡ 0 → LeastTripleIs (asked s q) (front a out′))
       × (afterSheet s (badOffice (headerOf s) (q .office)) .number ≡ 0 → (a .number ≡ 26) ↔ ((ws : List ℕ) → BothAt (asked s q) ws → ⊥))
-  pub least-pair : (s : List ℕ) (q : Question) (out : List ℕ) {a : Answer} {out′ : List ℕ} → ShowsLeastPair s q out a out′
-      → (a .number ≡ 0 → LeastPairIs (asked s q) (q .deed) (q .other) (front a out′))
+  pub least-holder : (s : List ℕ) (q : Question) (out : List ℕ) {a : Answer} {out′ : List ℕ} → ShowsLeastHolder s q out a out′
+      → (a .number ≡ 0 → LeastHolderIs (asked s q) (q .deed) (q .other) (front a out′))
       × (afterSheet s (badOffice (headerOf s) (q .office) orElse badPair s q) .number ≡ 0 → (a .number ≡ 26) ↔ ((ws : List ℕ) → HoldsBoth (asked s q) (q .deed) (q .other) ws → ⊥))
 
 -- ==== Demand 3: any two well-formed one-office sheets whose union keeps the limits and fits the buffer join into that union, each identity and relation once, marked by office

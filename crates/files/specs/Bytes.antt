@@ -32,7 +32,7 @@ bytesOf (w ∷ ws) = bytesOfWord w ++ bytesOf ws
 
 -- 33 bytes: length not a multiple of 4, or above 40,984
 unfoldable pub bytesFault : ℕ → ℕ
-bytesFault length = 33 when not (length % 4 is 0) || maxBytes below length otherwise 0
+bytesFault n = 33 when not (n % 4 is 0) || maxBytes below n otherwise 0
 
 -- the verdict on a file as sheet p: 33, then 1 to 17 of its words
 unfoldable pub bytesVerdict : ℕ → List ℕ → Refusal

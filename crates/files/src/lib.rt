@@ -105,10 +105,10 @@ pub fn encode(words: &[u32], bytes: &mut [u8]) -> Refusal
 }
 
 // 33, of a file of so many bytes.
-pub fn bytes_fault(length: usize) -> u32
-    ensures { λ r. ⌜ r ≡ bytesFault length ⌝ }
+pub fn bytes_fault(n: usize) -> u32
+    ensures { λ r. ⌜ r ≡ bytesFault n ⌝ }
 {
-    if (length % 4 != 0) | (MAX_BYTES < length) {
+    if (n % 4 != 0) | (MAX_BYTES < n) {
         return 33;
     }
     0

@@ -49,7 +49,7 @@ fn tell(j: Joined) {
 }
 
 // Nothing is said of a join before its file is there.
-fn run(first: &[u8], second: &[u8]) {
+fn join_and_tell(first: &[u8], second: &[u8]) {
     let mut out = [0u8; MAX_BYTES];
     let j = join_files::join_files(first, second, &mut out);
     if j.number == 0 {
@@ -67,5 +67,5 @@ fn main() {
     let n = disk::load(b"first.sheet", &mut first);
     let mut second = io::large_buffer();
     let m = disk::load(b"second.sheet", &mut second);
-    run(&first[..n], &second[..m]);
+    join_and_tell(&first[..n], &second[..m]);
 }

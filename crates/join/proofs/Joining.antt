@@ -20,13 +20,13 @@ use Rattle.combine.specs.declared.Part.the-variants.{Nodes, Edges}
 use Rattle.combine.specs.declared.Rule.the-variants.{Beside}
 use Rattle.combine.specs.declared.Measure.{Measure}
 use Rattle.combine.specs.Combined.{Making, keys}
-use Rattle.combine.specs.Parts.{rowAt}
+use Rattle.combine.specs.SheetTables.{rowAt}
 use Rattle.combine.specs.Sheets.{IsCombined, Pair, Measured, Laid}
 use Rattle.combine.proofs.Counting.{kept-both}
 use Rattle.combine.proofs.Reading.{part-table}
 use Rattle.combine.proofs.Ruling.{beside-pair}
 use Rattle.join.specs.declared.Joined.{Joined}
-use Rattle.join.specs.Joined.{sharedNodes, sharedEdges, unionNodes, unionEdges, tooMuch, unionFault, tells, Joins, joined}
+use Rattle.join.specs.Joins.{sharedNodes, sharedEdges, unionNodes, unionEdges, tooMuch, unionFault, madeJoin, Joins, joined}
 use Rattle.join.specs.Joinable.{jointOffices, jointShift, Joinable}
 use Rattle.join.proofs.Refusing.{within-limits, union-passes}
 
@@ -109,7 +109,7 @@ module _ (a : List ℕ) (h : Header) (A : Joinable a h) (b : List ℕ) (g : Head
         let l = within-limits (m .nodes) (m .edges) (length out) z in
         let sn : h .nodes + g .nodes - m .nodes ≡ sharedNodes a b = omega (arith, nodes-count) in
         let se : h .edges + g .edges - m .edges ≡ sharedEdges a b = omega (arith, edges-count) in
-        let told : x ≡ tells a b j = q ∙ (λ i. record { number = 0; sheet = 0; row = 0; words = sym long i; nodes = sym jn i; edges = sym je i; sharednodes = sn i; sharededges = se i }) in
+        let told : x ≡ madeJoin a b j = q ∙ (λ i. record { number = 0; sheet = 0; row = 0; words = sym long i; nodes = sym jn i; edges = sym je i; sharednodes = sn i; sharededges = se i }) in
         let oa : officesOf a ≡ 1 = ap (λ (y : Header). y .offices) (sym (A .head)) ∙ A .one in
         let ob : officesOf b ≡ 1 = ap (λ (y : Header). y .offices) (sym (B .head)) ∙ B .one in
         subst (λ (w : List ℕ). Joins (unionFault a b (length out)) a b out x w) (sym (L .holds))

@@ -18,7 +18,7 @@ use Rattle.sheet.proofs.Writing.{short-lacks, writes-room}
 use Rattle.files.specs.Bytes.{wordsOf, bytesOf, bytesVerdict}
 use Rattle.files.proofs.Words.{words-long, bytes-long, bytes-good, decoded}
 use Rattle.join.specs.declared.Joined.{Joined}
-use Rattle.join.specs.Joined.{sharedNodes, sharedEdges, unionNodes, unionEdges, tooMuch, sheetsFault, unionFault, joinFault, refusedBy, tells, Joins, refused, joined}
+use Rattle.join.specs.Joins.{sharedNodes, sharedEdges, unionNodes, unionEdges, tooMuch, sheetsFault, unionFault, joinFault, refusedJoin, madeJoin, Joins, refused, joined}
 use Rattle.join.proofs.Refusing.{joins-refused, in-25, in-none, within-limits, too-much-is, union-passes}
 use Rattle.meaning.specs.Join.{IsJoin}
 use Rattle.join_files.specs.JoinedFiles.{filesFault, JoinsBytes, JoinsFiles}
@@ -99,7 +99,7 @@ module _ (a b w : List ℕ) where
     abbrev Tells : Joined → Type 0
     Tells y = JoinsBytes (joinFault a b (length out / 4)) a b out y out′
 
-    encoded : {r : Joined} {w′ : List ℕ} → Joins (joinFault a b maxWords) a b w r w′ → r .number ≡ 0 → Writes none (bytesOf (take (r .words - 0) w′)) out x out′ → (x .number ≡ 0 → Tells r) × ((x .number ≡ 0 → ⊥) → Tells (refusedBy x))
+    encoded : {r : Joined} {w′ : List ℕ} → Joins (joinFault a b maxWords) a b w r w′ → r .number ≡ 0 → Writes none (bytesOf (take (r .words - 0) w′)) out x out′ → (x .number ≡ 0 → Tells r) × ((x .number ≡ 0 → ⊥) → Tells (refusedJoin x))
     encoded (refused h) z y = absurd (h z)
     encoded (joined j q i n e l) z y = go (decLt (length out) (length (bytesOf j)))
       where
@@ -109,17 +109,17 @@ module _ (a b w : List ℕ) where
         long : length (bytesOf j) ≡ 4 * sheetWords (unionNodes a b) (unionEdges a b)
         long = bytes-long j ∙ ap (λ (k : ℕ). 4 * k) (joint-long a b j i n e)
 
-        go : Dec (length out < length (bytesOf j)) → (x .number ≡ 0 → Tells (tells a b j)) × ((x .number ≡ 0 → ⊥) → Tells (refusedBy x))
+        go : Dec (length out < length (bytesOf j)) → (x .number ≡ 0 → Tells (madeJoin a b j)) × ((x .number ≡ 0 → ⊥) → Tells (refusedJoin x))
         go (yes k) =
             let u = lacking (bytesOf j) out x out′ bytes k in
             let v = lacks a b (length out / 4) q (omega (arith, k, long)) in (
               λ o. absurd (omega (arith, ap (λ (t : Refusal). t .number) (sym (u .0)) ∙ o)),
-              λ o. subst (JoinsBytes (joinFault a b (length out / 4)) a b out (refusedBy x)) (sym (u .1)) (joins-refused _ _ x a b out _ (u .0 ∙ v) o refl),
+              λ o. subst (JoinsBytes (joinFault a b (length out / 4)) a b out (refusedJoin x)) (sym (u .1)) (joins-refused _ _ x a b out _ (u .0 ∙ v) o refl),
             )
         go (no k) =
             let f : length (bytesOf j) ≤ length out = omega (arith, k) in
             let u = writes-room (bytesOf j) out x out′ bytes f in (
-              λ o. subst (JoinsBytes (joinFault a b (length out / 4)) a b out (tells a b j)) (sym (u .1)) (joined j (fits a b (length out / 4) q (omega (arith, f, long))) i n e f),
+              λ o. subst (JoinsBytes (joinFault a b (length out / 4)) a b out (madeJoin a b j)) (sym (u .1)) (joined j (fits a b (length out / 4) q (omega (arith, f, long))) i n e f),
               λ o. absurd (o (ap (λ (t : Refusal). t .number) (u .0))),
             )
 
@@ -139,7 +139,7 @@ module _ (a b w w′ : List ℕ) (r : Joined) (k : length w ≡ maxWords) (x : J
       pub bytes-written : y .number ≡ 0 → JoinsBytes (joinFault a b (length out / 4)) a b out r out′
       bytes-written = encoded a b w out y out′ at-longest z e .0
 
-      pub bytes-short : (j : Joined) → j ≡ refusedBy y → (y .number ≡ 0 → ⊥) → JoinsBytes (joinFault a b (length out / 4)) a b out j out′
+      pub bytes-short : (j : Joined) → j ≡ refusedJoin y → (y .number ≡ 0 → ⊥) → JoinsBytes (joinFault a b (length out / 4)) a b out j out′
       bytes-short j q o = subst (λ (v : Joined). JoinsBytes (joinFault a b (length out / 4)) a b out v out′) (sym q) (encoded a b w out y out′ at-longest z e .1 o)
 
 -- ---- the files
@@ -155,12 +155,12 @@ pub words-joined : (first second out : List ℕ) (a b : List ℕ) → a ≡ word
 words-joined first second out a b e f j out′ x = subst₂ (λ (p q : List ℕ). JoinsBytes (joinFault p q (length out / 4)) p q out j out′) e f x
 
 module _ (first second out : List ℕ) (r : Refusal) (x : r ≡ bytesVerdict 1 first) where
-  pub first-refused : (j : Joined) → j ≡ refusedBy r → (r .number ≡ 0 → ⊥) → JoinsFiles first second out j out
+  pub first-file-refused : (j : Joined) → j ≡ refusedJoin r → (r .number ≡ 0 → ⊥) → JoinsFiles first second out j out
   unfolding filesFault
-  first-refused j q z = joins-refused _ _ r _ _ out j (then-some-is r _ _ x z) z q
+  first-file-refused j q z = joins-refused _ _ r _ _ out j (then-some-is r _ _ x z) z q
 
   module _ (z : r .number ≡ 0) (s : Refusal) (y : s ≡ bytesVerdict 2 second) where
-    pub second-refused : (j : Joined) → j ≡ refusedBy s → (s .number ≡ 0 → ⊥) → JoinsFiles first second out j out
+    pub second-refused : (j : Joined) → j ≡ refusedJoin s → (s .number ≡ 0 → ⊥) → JoinsFiles first second out j out
     unfolding filesFault
     second-refused j q o = joins-refused _ _ s _ _ out j (then-none-is r _ s _ x z (then-some-is s _ _ y o)) o q
 

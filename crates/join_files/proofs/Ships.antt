@@ -17,7 +17,7 @@ use Rattle.meaning.specs.Ships.{sheetA, sheetB, sheetJ}
 use Rattle.meaning.proofs.Ships.{sister-ships}
 use Rattle.tables.specs.Count.{howMany, someRow, has, shared}
 use Rattle.join.specs.declared.Joined.{Joined}
-use Rattle.join.specs.Joined.{sharedNodes, sharedEdges, unionNodes, unionEdges, notOne, tooMuch, sheetsFault, unionFault, joinFault, tells, joined}
+use Rattle.join.specs.Joins.{sharedNodes, sharedEdges, unionNodes, unionEdges, notOne, tooMuch, sheetsFault, unionFault, joinFault, madeJoin, joined}
 use Rattle.join_files.specs.JoinedFiles.{filesFault, JoinsBytes, JoinsFiles}
 use Rattle.join_files.specs.Lines.{twoLines, refusalLine, reportOf}
 use Rattle.join_files.proofs.Joining.{fits}
@@ -29,7 +29,7 @@ shipsLines =
     110 ∷ 111 ∷ 100 ∷ 101 ∷ 115 ∷ 32 ∷ 56 ∷ 32 ∷ 115 ∷ 104 ∷ 97 ∷ 114 ∷ 101 ∷ 100 ∷ 32 ∷ 52 ∷ 10 ∷
     101 ∷ 100 ∷ 103 ∷ 101 ∷ 115 ∷ 32 ∷ 56 ∷ 32 ∷ 115 ∷ 104 ∷ 97 ∷ 114 ∷ 101 ∷ 100 ∷ 32 ∷ 50 ∷ 10 ∷ []
 
-lines : reportOf (tells sheetA sheetB sheetJ) ≡ shipsLines
+lines : reportOf (madeJoin sheetA sheetB sheetJ) ≡ shipsLines
 unfolding sheetA sheetB sheetJ headerOf nodeAt edgeAt edgeRow howMany someRow has shared sharedNodes sharedEdges digitsBy decimal twoLines refusalLine reportOf
 lines = refl
 
@@ -39,9 +39,9 @@ unfolding sheetA sheetB wordsOf bytesOf bytesFault bytesVerdict verdict rowsVerd
 files = (refl, refl, refl, refl)
 
 -- the counts add up, and the joint file has 280 bytes
-counts : (headerOf sheetJ .nodes + sharedNodes sheetA sheetB ≡ headerOf sheetA .nodes + headerOf sheetB .nodes) × (headerOf sheetJ .edges + sharedEdges sheetA sheetB ≡ headerOf sheetA .edges + headerOf sheetB .edges) × (length (bytesOf sheetJ) ≡ 280)
+counts-add-up : (headerOf sheetJ .nodes + sharedNodes sheetA sheetB ≡ headerOf sheetA .nodes + headerOf sheetB .nodes) × (headerOf sheetJ .edges + sharedEdges sheetA sheetB ≡ headerOf sheetA .edges + headerOf sheetB .edges) × (length (bytesOf sheetJ) ≡ 280)
 unfolding sheetA sheetB sheetJ bytesOf headerOf nodeAt edgeAt edgeRow howMany someRow has shared sharedNodes sharedEdges
-counts = (refl, refl, refl)
+counts-add-up = (refl, refl, refl)
 
 -- the union is 8 nodes and 8 edges, and nothing refuses the join where there is room
 union : (unionNodes sheetA sheetB ≡ 8) × (unionEdges sheetA sheetB ≡ 8) × (joinFault sheetA sheetB 10246 .number ≡ 0)
@@ -59,5 +59,5 @@ pub ships-joined : (out o : List ℕ) (r : Joined) → 280 ≤ length out → Jo
 ships-joined out o r h x =
     let f = filesFault (bytesOf sheetA) (bytesOf sheetB) (length out) in
     let y : JoinsBytes f sheetA sheetB out r o = subst₂ (λ (a b : List ℕ). JoinsBytes f a b out r o) (files .2) (files .3) x in
-    let one = joins-one bytesOf f sheetA sheetB out y (joined sheetJ (passes (length out) h) (sister-ships .case11) (counts .0) (counts .1) (omega (arith, h, counts .2))) in
-    (ap reportOf (one .0) ∙ lines, one .1 ∙ ap (λ (n : ℕ). bytesOf sheetJ ++ drop n out) (counts .2))
+    let one = joins-one bytesOf f sheetA sheetB out y (joined sheetJ (passes (length out) h) (sister-ships .case11) (counts-add-up .0) (counts-add-up .1) (omega (arith, h, counts-add-up .2))) in
+    (ap reportOf (one .0) ∙ lines, one .1 ∙ ap (λ (n : ℕ). bytesOf sheetJ ++ drop n out) (counts-add-up .2))

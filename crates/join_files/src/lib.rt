@@ -6,7 +6,7 @@ ghost use Prim.Native.Nat.{_/_, _≤_};
 ghost use lib.ListN.{length, take};
 ghost use Rattle.sheet.specs.Limits.{maxBytes};
 ghost use Rattle.files.specs.Bytes.{wordsOf};
-ghost use Rattle.join.specs.Joined.{joinFault};
+ghost use Rattle.join.specs.Joins.{joinFault};
 ghost use Rattle.join_files.specs.JoinedFiles.{JoinsBytes, JoinsFiles};
 ghost use Rattle.join_files.specs.Lines.{twoLines, refusalLine, reportOf, Reports};
 
@@ -25,7 +25,7 @@ fn join_words(first: &[u32], second: &[u32], out: &mut [u8]) -> Joined
     let n = j.words as usize;
     let r = files::encode(&words[0..n], out);
     if r.number != 0 {
-        return join::refused(r);
+        return join::refused_join(r);
     }
     j
 }
@@ -50,11 +50,11 @@ pub fn join_files(first: &[u8], second: &[u8], out: &mut [u8]) -> Joined
 {
     let r = files::check_bytes_as(1, first);
     if r.number != 0 {
-        return join::refused(r);
+        return join::refused_join(r);
     }
     let s = files::check_bytes_as(2, second);
     if s.number != 0 {
-        return join::refused(s);
+        return join::refused_join(s);
     }
     join_decoded(first, second, out)
 }

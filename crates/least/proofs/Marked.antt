@@ -8,12 +8,13 @@ use lib.Dec.{eqb}
 use lib.ListN.{length, getD}
 use borrow.Author.Tests.{eqb-true, eq-eqb}
 use Rattle.tables.specs.Count.{numberOf}
+use Rattle.sheet.specs.Kinds.{deedType}
 use Rattle.sheet.specs.declared.Header.{Header}
 use Rattle.sheet.specs.declared.Node.{Node}
 use Rattle.sheet.specs.declared.Seat.{Seat}
 use Rattle.sheet.specs.Limits.{maxNodes}
 use Rattle.sheet.specs.Rows.{nodeAt}
-use Rattle.paths.specs.Steps.{Layers, Starts}
+use Rattle.paths.specs.Reached.{Layers, Starts}
 use Rattle.paths.proofs.Tests.{and-left, and-right, both}
 use Rattle.walk.specs.declared.Walk.{Walk}
 use Rattle.walk.specs.Arcs.{Steps, walkOf, Arranged}
@@ -24,13 +25,13 @@ use Rattle.reach.proofs.Marking.{some-number, number-some, starts-tell}
 
 -- ---- from the deed rows of a number
 
-starting-is : (r : Node) (v number : ℕ) → starting r v number ≡ true → (r .class ≡ 3) × (r .number ≡ number) × (v ≡ 0 → ⊥)
+starting-is : (r : Node) (v number : ℕ) → starting r v number ≡ true → (r .class ≡ deedType) × (r .number ≡ number) × (v ≡ 0 → ⊥)
 unfolding starting
 starting-is r v number e =
     let m = and-right (eqb (r .class) 3) _ e in
     (eqb-true (r .class) 3 (and-left (eqb (r .class) 3) _ e), eqb-true (r .number) number (and-left (eqb (r .number) number) _ m), some-number v (and-right (eqb (r .number) number) _ m))
 
-is-starting : (r : Node) (v number : ℕ) → r .class ≡ 3 → r .number ≡ number → (v ≡ 0 → ⊥) → starting r v number ≡ true
+is-starting : (r : Node) (v number : ℕ) → r .class ≡ deedType → r .number ≡ number → (v ≡ 0 → ⊥) → starting r v number ≡ true
 unfolding starting
 is-starting r v number a b c = both (eq-eqb (r .class) 3 a) (both (eq-eqb (r .number) number b) (number-some v c))
 

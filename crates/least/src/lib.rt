@@ -21,10 +21,10 @@ ghost use Rattle.sheet.specs.Rows.{nodeAt};
 ghost use Rattle.sheet.specs.Accepted.{NodesFormed, WellFormed};
 ghost use Rattle.sheet.specs.Seats.{Seated, seenFrom};
 ghost use Rattle.walk.specs.Arcs.{Arranged};
-ghost use Rattle.meaning.specs.Questions.{LeastBothIs, LeastPairIs};
+ghost use Rattle.meaning.specs.Questions.{LeastTripleIs, LeastHolderIs};
 ghost use Rattle.question.specs.Asked.{FirstStanding};
 ghost use Rattle.question.specs.Checked.{AtSeat};
-ghost use Rattle.reach.specs.Found.{Finds};
+ghost use Rattle.reach.specs.Finds.{Finds};
 ghost use Rattle.least.specs.Least.{Prepared, starting, DeedStarts, RowsByDeed, common, deedIn, repeated, FirstRow, PairRows, Hits};
 
 // One number for each node row.
@@ -214,7 +214,7 @@ fn no_hit() -> Hit
 // The least pair in row order, which is that of the numbers.
 fn first_pair(sheet: &[u32], edges: &[u32], h: Header, q: Question, w: Walk, index: &[u32]) -> Hit
     requires { ⌜ WellFormed (now sheet) (now edges) h × Prepared (now sheet) (now edges) h (w .seat) 3 w (now index) ⌝ }
-    ensures { λ r. ⌜ Hits (LeastPairIs (seenFrom (now (sheet .entry)) (w .seat)) (q .deed) (q .other)) (r .person ∷ r .folio ∷ []) (r .found) ⌝ }
+    ensures { λ r. ⌜ Hits (LeastHolderIs (seenFrom (now (sheet .entry)) (w .seat)) (q .deed) (q .other)) (r .person ∷ r .folio ∷ []) (r .found) ⌝ }
 {
     let n = h.nodes;
     let mut i: u32 = 0;
@@ -229,7 +229,7 @@ fn first_pair(sheet: &[u32], edges: &[u32], h: Header, q: Question, w: Walk, ind
 }
 
 // Question 9 from the seat: the least (person, folio) with a grant path for each of two deeds, as two words.
-pub fn least_pair(
+pub fn least_holder_at(
     sheet: &[u32],
     edges: &[u32],
     h: Header,
@@ -238,7 +238,7 @@ pub fn least_pair(
     list: &mut [u32],
 ) -> u32
     requires { ⌜ AtSeat (now sheet) (now edges) h seat × (length (now list) ≡ maxEdges) ⌝ }
-    ensures { λ r. ⌜ Finds (LeastPairIs (seenFrom (now (sheet .entry)) seat) (q .deed) (q .other)) (now (list .exit)) r ⌝ }
+    ensures { λ r. ⌜ Finds (LeastHolderIs (seenFrom (now (sheet .entry)) seat) (q .deed) (q .other)) (now (list .exit)) r ⌝ }
 {
     let w = walk::walk_of(seat, GRANT, 0);
     let index = walk::arranged(sheet, edges, h, w);
@@ -262,7 +262,7 @@ fn first_both(
     banindex: &[u32],
 ) -> Hit
     requires { ⌜ WellFormed (now sheet) (now edges) h × Prepared (now sheet) (now edges) h (grants .seat) 3 grants (now grantindex) × Prepared (now sheet) (now edges) h (grants .seat) 4 bans (now banindex) ⌝ }
-    ensures { λ r. ⌜ Hits (LeastBothIs (seenFrom (now (sheet .entry)) (grants .seat))) (r .person ∷ r .deed ∷ r .folio ∷ []) (r .found) ⌝ }
+    ensures { λ r. ⌜ Hits (LeastTripleIs (seenFrom (now (sheet .entry)) (grants .seat))) (r .person ∷ r .deed ∷ r .folio ∷ []) (r .found) ⌝ }
 {
     let n = h.nodes;
     let mut hit = no_hit();
@@ -291,9 +291,9 @@ fn first_both(
 }
 
 // Question 8 from the seat: the least (person, deed, folio) that is Both, as three words.
-pub fn least_both(sheet: &[u32], edges: &[u32], h: Header, seat: Seat, list: &mut [u32]) -> u32
+pub fn least_triple_at(sheet: &[u32], edges: &[u32], h: Header, seat: Seat, list: &mut [u32]) -> u32
     requires { ⌜ AtSeat (now sheet) (now edges) h seat × (length (now list) ≡ maxEdges) ⌝ }
-    ensures { λ r. ⌜ Finds (LeastBothIs (seenFrom (now (sheet .entry)) seat)) (now (list .exit)) r ⌝ }
+    ensures { λ r. ⌜ Finds (LeastTripleIs (seenFrom (now (sheet .entry)) seat)) (now (list .exit)) r ⌝ }
 {
     let grants = walk::walk_of(seat, GRANT, 0);
     let grantindex = walk::arranged(sheet, edges, h, grants);

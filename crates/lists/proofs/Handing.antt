@@ -11,7 +11,7 @@ use Rattle.sheet.specs.Refusals.{refuse}
 use Rattle.question.specs.declared.Answer.{Answer}
 use Rattle.question.specs.Replies.{Shows}
 use Rattle.question.proofs.Telling.{show-missing, show-short, show-written}
-use Rattle.reach.specs.Found.{noneFound, Finds, some, none}
+use Rattle.reach.specs.Finds.{noneFound, Finds, some, none}
 use Rattle.lists.specs.Handed.{Handed, missing, short, written}
 
 -- a list of at most so many words is no list of none

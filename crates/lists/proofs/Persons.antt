@@ -1,9 +1,9 @@
 -- Questions 5 and 6: the persons from whose rows the walk leads to a category's or a folio's row are those in the category, or those with a grant path.
 -- Assumes nothing.
-use Prim.Native.Nat.{ℕ, zero, suc, _+_, _<_}
+use Prim.Native.Nat.{ℕ, _+_, _<_}
 use native.Mathlib.Omega.{arith}
 use mathlib.Core.Path.{_≡_, refl, sym, ap, subst, _∙_}
-use mathlib.Core.Bool.{Bool, true, false, false≢true}
+use mathlib.Core.Bool.{Bool, true, false}
 use mathlib.Core.List.{List}
 use mathlib.Core.Logic.{_⊎_, inl, inr, ⊎-elim}
 use lib.ListN.{length, getD, set}
@@ -16,20 +16,19 @@ use Rattle.sheet.specs.Rows.{headerOf, nodeKeyAt}
 use Rattle.sheet.specs.Accepted.{WellFormed}
 use Rattle.sheet.specs.Seats.{seenFrom}
 use Rattle.sheet.proofs.Naming.{ends-seen}
-use Rattle.paths.proofs.Tests.{or-cases}
-use Rattle.paths.proofs.Rounds.{same-or}
+use Rattle.paths.proofs.Rounds.{same-number-or}
 use Rattle.meaning.specs.Paths.{grant, person, category, folio, HasPath}
 use Rattle.meaning.specs.Forms.{Rising}
-use Rattle.meaning.specs.Questions.{InCategory, PersonsAre, HoldersAre}
+use Rattle.meaning.specs.Questions.{InCategory, PersonsInCategoryAre, PersonsWithGrantAre}
 use Rattle.meaning.proofs.Axioms.{a1-a2}
 use Rattle.walk.specs.declared.Walk.{Walk}
 use Rattle.question.specs.Asked.{FirstStanding, stands, known}
-use Rattle.tables.specs.Count.{someRow}
+use Rattle.tables.proofs.Counts.{some-row}
 use Rattle.question.specs.Checked.{AtSeat}
 use Rattle.ask.proofs.Links.{walkFor}
 use Rattle.sheet.proofs.Forming.{words-of}
 use Rattle.question.proofs.Known.{found-class}
-use Rattle.reach.specs.Found.{Finds}
+use Rattle.reach.specs.Finds.{Finds}
 use Rattle.reach.specs.Reaching.{Tells, LeadsTo}
 use Rattle.lists.specs.Picked.{PersonLeads, PersonsReach, wanted, PickedNumber}
 use Rattle.reach.proofs.Collecting.{rising-map, finds-map}
@@ -38,19 +37,9 @@ use Rattle.reach.proofs.Marking.{some-number, number-some}
 use Rattle.lists.proofs.Picking.{known-by}
 use Rattle.reach.proofs.Rows.{SeenRow, seen-row}
 
--- some row passes
-some-row : (f : ℕ → Bool) (n : ℕ) → someRow f n ≡ true → (i : ℕ) × (i < n) × (f i ≡ true)
-unfolding someRow
-some-row f zero e = absurd (false≢true e)
-some-row f (suc n) e = go (or-cases (f n) (someRow f n) e) (λ q. some-row f n q)
-  where
-    go : (f n ≡ true) ⊎ (someRow f n ≡ true) → (someRow f n ≡ true → (i : ℕ) × (i < n) × (f i ≡ true)) → (i : ℕ) × (i < suc n) × (f i ≡ true)
-    go (inl q) later = (n, omega arith, q)
-    go (inr q) later = let r = later q in (r .0, omega (arith, r .1), r .2)
-
 -- one more row's number tells
 pub tells-more : (P C : ℕ → Type 0) (m : List ℕ) (i v : ℕ) → i < length m → ((j : ℕ) → j < i → C j → Tells (getD m j 0) (P j)) → (C i → Tells v (P i)) → (j : ℕ) → j < i + 1 → C j → Tells (getD (set m i v) j 0) (P j)
-tells-more P C m i v l h t j b c = ⊎-elim here before (same-or j i)
+tells-more P C m i v l h t j b c = ⊎-elim here before (same-number-or j i)
   where
     here : j ≡ i → Tells (getD (set m i v) j 0) (P j)
     here e = rw (e, getD-set-same m i v 0 l) (t (subst C e c))
@@ -126,7 +115,7 @@ module _ (s t : List ℕ) (h : Header) (seat : Seat) (at : AtSeat s t h seat) (d
         let r = seen-row s t h f (seat .office) 1 p 0 (ends-seen s (words-of s t h f) (seat .office) 1 1 p 0 2 (i .directly) 0 (i .member-of) .0) in
         leading p r (category-leads s t h f seat d (r .row) to p c (r .inside) (r .names) inside is-category i)
 
-    pub persons-found : {list : List ℕ} {n : ℕ} → Finds (Rising (PersonLeads s t h (seat .office) w to)) list n → Finds (PersonsAre (seenFrom s seat) c) list n
+    pub persons-found : {list : List ℕ} {n : ℕ} → Finds (Rising (PersonLeads s t h (seat .office) w to)) list n → Finds (PersonsInCategoryAre (seenFrom s seat) c) list n
     persons-found x = finds-map (λ ws. rising-map into out) (λ ws. rising-map out into) x
 
   module _ (n : ℕ) (is-folio : nodeKeyAt s to ≡ folio n) (some : d ≡ 0 → ⊥) where
@@ -141,5 +130,5 @@ module _ (s t : List ℕ) (h : Header) (seat : Seat) (at : AtSeat s t h seat) (d
         let r = seen-row s t h f (seat .office) 1 p 0 (ends-seen s (words-of s t h f) (seat .office) 1 1 p 0 2 (a .c) 0 (a .assigned) .0) in
         leading p r (folio-leads s t h f seat grant d (r .row) to p d n (r .inside) (r .names) inside is-folio (λ z. refl) i)
 
-    pub holders-found : {list : List ℕ} {m : ℕ} → Finds (Rising (PersonLeads s t h (seat .office) w to)) list m → Finds (HoldersAre (seenFrom s seat) d n) list m
+    pub holders-found : {list : List ℕ} {m : ℕ} → Finds (Rising (PersonLeads s t h (seat .office) w to)) list m → Finds (PersonsWithGrantAre (seenFrom s seat) d n) list m
     holders-found x = finds-map (λ ws. rising-map holds held) (λ ws. rising-map held holds) x

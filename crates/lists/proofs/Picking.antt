@@ -66,16 +66,16 @@ unfolding _orElse_
 else-first zero m h = absurd (h refl)
 else-first (suc k) m h = refl
 
-pub fault-office : (number : ℕ) (s : List ℕ) (q : Question) (h : Header) (n : ℕ) → h ≡ headerOf s → n ≡ badOffice h (q .office) → (n ≡ 0 → ⊥) → n ≡ soughtFault number s q
+pub sought-office : (number : ℕ) (s : List ℕ) (q : Question) (h : Header) (n : ℕ) → h ≡ headerOf s → n ≡ badOffice h (q .office) → (n ≡ 0 → ⊥) → n ≡ soughtFault number s q
 unfolding soughtFault
-fault-office number s q h n e b z = let d = rw e at b in d ∙ sym (else-first (badOffice (headerOf s) (q .office)) _ (λ x. z (d ∙ x)))
+sought-office number s q h n e b z = let d = rw e at b in d ∙ sym (else-first (badOffice (headerOf s) (q .office)) _ (λ x. z (d ∙ x)))
 
 -- ---- what is found, by the question's number
 
-else-none : (k : ℕ) → k orElse 0 ≡ k
+or-none : (k : ℕ) → k orElse 0 ≡ k
 unfolding _orElse_
-else-none zero = refl
-else-none (suc k) = refl
+or-none zero = refl
+or-none (suc k) = refl
 
 else-zero : (k m : ℕ) → k orElse m ≡ 0 → m ≡ 0
 unfolding _orElse_
@@ -108,4 +108,4 @@ module _ (number : ℕ) (s : List ℕ) (q : Question) (seat : Seat) (is : seat �
 -- a question that refuses nothing more than the office's number
 pub office-alone : (s : List ℕ) (q : Question) (number : ℕ) → eqb number 5 ≡ false → eqb number 6 ≡ false → eqb number 9 ≡ false → soughtFault number s q ≡ badOffice (headerOf s) (q .office)
 unfolding soughtFault _when_otherwise_
-office-alone s q number a b c = rw (a, b, c) (else-none (badOffice (headerOf s) (q .office)))
+office-alone s q number a b c = rw (a, b, c) (or-none (badOffice (headerOf s) (q .office)))

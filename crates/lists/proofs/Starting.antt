@@ -9,7 +9,7 @@ use borrow.Author.Tests.{eqb-true, eq-eqb}
 use Rattle.sheet.specs.declared.Header.{Header}
 use Rattle.sheet.specs.Limits.{maxNodes}
 use Rattle.sheet.specs.Rows.{nodeAt}
-use Rattle.paths.specs.Steps.{Layers, Starts}
+use Rattle.paths.specs.Reached.{Layers, Starts}
 use Rattle.walk.specs.declared.Walk.{Walk}
 use Rattle.walk.specs.Arcs.{Steps}
 use Rattle.reach.specs.Reaching.{Started}

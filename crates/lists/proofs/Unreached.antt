@@ -19,13 +19,13 @@ use Rattle.sheet.proofs.Naming.{seen-node, ends-seen}
 use Rattle.paths.proofs.Distances.{zero-or}
 use Rattle.meaning.specs.Paths.{grant, folio, HasPath}
 use Rattle.meaning.specs.Forms.{Rising}
-use Rattle.meaning.specs.Questions.{UnreachedAre}
+use Rattle.meaning.specs.Questions.{FoliosOutOfReachAre}
 use Rattle.meaning.proofs.Axioms.{a1-a2}
 use Rattle.walk.specs.declared.Walk.{Walk}
 use Rattle.question.specs.Checked.{AtSeat}
 use Rattle.ask.proofs.Links.{walkFor}
 use Rattle.sheet.proofs.Forming.{words-of}
-use Rattle.reach.specs.Found.{Finds}
+use Rattle.reach.specs.Finds.{Finds}
 use Rattle.lists.specs.Picked.{FromPersons, PersonsLead, wanted, PickedNumber}
 use Rattle.reach.proofs.Collecting.{rising-map, finds-map}
 use Rattle.reach.proofs.Leading.{plain-row, folio-of, folio-leads}
@@ -54,8 +54,8 @@ module _ (s t : List ℕ) (h : Header) (seat : Seat) (at : AtSeat s t h seat) (d
       }
 
   -- and what leads to the folio's row is a path
-  leads : (i n : ℕ) → nodeKeyAt s i ≡ folio n → FromPersons s t h w i → (p y : ℕ) × HasPath g grant p y n
-  leads i n e m =
+  leads-path : (i n : ℕ) → nodeKeyAt s i ≡ folio n → FromPersons s t h w i → (p y : ℕ) × HasPath g grant p y n
+  leads-path i n e m =
       let q = folio-of s t h f seat grant 0 (m .row) i (nodeAt s (m .row) .number) n (plain-row s t h f (m .row) 1 (m .inside) (m .class) (λ z. omega arith)) e (m .leads) in
       (nodeAt s (m .row) .number, q .0, q .2)
 
@@ -82,8 +82,8 @@ module _ (s t : List ℕ) (h : Header) (seat : Seat) (at : AtSeat s t h seat) (d
         where
           some : (v : ℕ) × (getD d (m .row) 0 ≡ suc v) → getD d (m .row) 0 ≡ 0
           some v =
-              let q = leads (m .row) n (m .names) (r .each (m .row) (m .inside) .yes (λ z. let e = v .1 in omega arith)) in
+              let q = leads-path (m .row) n (m .names) (r .each (m .row) (m .inside) .yes (λ z. let e = v .1 in omega arith)) in
               absurd (u .1 (q .0) (q .1) (q .2))
 
-  pub unreached-found : {list : List ℕ} {n : ℕ} → Finds (Rising (PickedNumber s (h .nodes) (seat .office) 4 false d)) list n → Finds (UnreachedAre g) list n
+  pub unreached-found : {list : List ℕ} {n : ℕ} → Finds (Rising (PickedNumber s (h .nodes) (seat .office) 4 false d)) list n → Finds (FoliosOutOfReachAre g) list n
   unreached-found x = finds-map (λ ws. rising-map into out) (λ ws. rising-map out into) x

@@ -7,7 +7,7 @@ use lib.ListN.{length, take, drop}
 use Rattle.question.specs.declared.Answer.{Answer}
 use Rattle.question.specs.Asked.{plain}
 use Rattle.question.specs.Replies.{refusedBy, tells}
-use Rattle.reach.specs.Found.{noneFound}
+use Rattle.reach.specs.Finds.{noneFound}
 
 -- the first n words of a list go to the front of the output: 26 where none are found, 25 where the output is shorter, and then it stays as it is
 pub data Handed (list : List ℕ) (n : ℕ) (out : List ℕ) : Answer → List ℕ → Type 0 where

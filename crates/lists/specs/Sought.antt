@@ -6,7 +6,7 @@ use mathlib.Core.List.{List}
 use Rattle.sheet.specs.Kinds.{categoryType, deedType, folioType}
 use Rattle.sheet.specs.Refusals.{_is_, _when_otherwise_, _orElse_}
 use Rattle.sheet.specs.Rows.{headerOf}
-use Rattle.meaning.specs.Questions.{PersonsAre, HoldersAre, UnreachedAre, LeastBothIs, LeastPairIs, RedundantAre}
+use Rattle.meaning.specs.Questions.{PersonsInCategoryAre, PersonsWithGrantAre, FoliosOutOfReachAre, LeastTripleIs, LeastHolderIs, RedundantEdgesAre}
 use Rattle.question.specs.declared.Question.{Question}
 use Rattle.question.specs.Asked.{asked, known, badOffice}
 
@@ -36,9 +36,9 @@ soughtFault number s q =
 -- what questions 5 to 10 give, by the question's number
 unfoldable pub soughtIs : ℕ → List ℕ → Question → List ℕ → Type 0
 soughtIs number s q =
-    chosen (number is 5) (PersonsAre (asked s q) (q .category))
-    (chosen (number is 6) (HoldersAre (asked s q) (q .deed) (q .folio))
-    (chosen (number is 7) (UnreachedAre (asked s q))
-    (chosen (number is 8) (LeastBothIs (asked s q))
-    (chosen (number is 9) (LeastPairIs (asked s q) (q .deed) (q .other))
-    (RedundantAre s (q .office))))))
+    chosen (number is 5) (PersonsInCategoryAre (asked s q) (q .category))
+    (chosen (number is 6) (PersonsWithGrantAre (asked s q) (q .deed) (q .folio))
+    (chosen (number is 7) (FoliosOutOfReachAre (asked s q))
+    (chosen (number is 8) (LeastTripleIs (asked s q))
+    (chosen (number is 9) (LeastHolderIs (asked s q) (q .deed) (q .other))
+    (RedundantEdgesAre s (q .office))))))

@@ -25,14 +25,14 @@ ghost use Rattle.sheet.specs.Accepted.{NodesFormed, WellFormed};
 ghost use Rattle.sheet.specs.Seats.{Seated, seenFrom};
 ghost use Rattle.walk.specs.Arcs.{walkOf, Arranged};
 ghost use Rattle.meaning.specs.Forms.{Rising};
-ghost use Rattle.meaning.specs.Questions.{PersonsAre, HoldersAre, UnreachedAre};
+ghost use Rattle.meaning.specs.Questions.{PersonsInCategoryAre, PersonsWithGrantAre, FoliosOutOfReachAre};
 ghost use Rattle.question.specs.Asked.{seatFor, known, badOffice, plain, afterSheet};
 ghost use Rattle.question.specs.Checked.{AtSeat};
 ghost use Rattle.question.specs.Replies.{Shows};
-ghost use Rattle.reach.specs.Found.{noneFound, Finds};
+ghost use Rattle.reach.specs.Finds.{noneFound, Finds};
 ghost use Rattle.lists.specs.Handed.{Handed};
 ghost use Rattle.lists.specs.Sought.{unknownCategory, unknownRight, badPair, soughtFault, soughtIs};
-ghost use Rattle.lists.specs.Promises.{ListsPersons, ListsHolders, ListsUnreached, ShowsLeastBoth, ShowsLeastPair, ListsRedundant};
+ghost use Rattle.lists.specs.Promises.{ListsPersonsInCategory, ListsPersonsWithGrant, ListsFoliosOutOfReach, ShowsLeastTriple, ShowsLeastHolder, ListsRedundantEdges};
 ghost use Rattle.reach.specs.Reaching.{Tells, LeadsTo, Started};
 ghost use Rattle.lists.specs.Picked.{PersonLeads, PersonsReach, PersonsLead, wanted, PickedNumber};
 
@@ -153,7 +153,7 @@ fn persons_to(
 }
 
 // Question 5 from the seat: the persons in a category that its office knows.
-fn persons_within(
+fn persons_in_category_at(
     sheet: &[u32],
     edges: &[u32],
     h: Header,
@@ -162,14 +162,14 @@ fn persons_within(
     list: &mut [u32],
 ) -> u32
     requires { ⌜ AtSeat (now sheet) (now edges) h seat × (known (now sheet) false (seat .office) 2 (q .category) ≡ true) × (length (now list) ≡ maxEdges) ⌝ }
-    ensures { λ r. ⌜ Finds (PersonsAre (seenFrom (now (sheet .entry)) seat) (q .category)) (now (list .exit)) r ⌝ }
+    ensures { λ r. ⌜ Finds (PersonsInCategoryAre (seenFrom (now (sheet .entry)) seat) (q .category)) (now (list .exit)) r ⌝ }
 {
     let to = question::seek(sheet, h, false, seat, CATEGORY, q.category);
     persons_to(sheet, edges, h, seat, 0, to, list)
 }
 
 // Question 6 from the seat: the persons with a grant path for a deed and a folio that its office knows.
-fn persons_holding(
+fn persons_with_grant_at(
     sheet: &[u32],
     edges: &[u32],
     h: Header,
@@ -178,7 +178,7 @@ fn persons_holding(
     list: &mut [u32],
 ) -> u32
     requires { ⌜ AtSeat (now sheet) (now edges) h seat × (known (now sheet) false (seat .office) 3 (q .deed) ≡ true) × (known (now sheet) false (seat .office) 4 (q .folio) ≡ true) × (length (now list) ≡ maxEdges) ⌝ }
-    ensures { λ r. ⌜ Finds (HoldersAre (seenFrom (now (sheet .entry)) seat) (q .deed) (q .folio)) (now (list .exit)) r ⌝ }
+    ensures { λ r. ⌜ Finds (PersonsWithGrantAre (seenFrom (now (sheet .entry)) seat) (q .deed) (q .folio)) (now (list .exit)) r ⌝ }
 {
     let to = question::seek(sheet, h, false, seat, FOLIO, q.folio);
     persons_to(sheet, edges, h, seat, q.deed, to, list)
@@ -222,9 +222,15 @@ fn persons_lead(sheet: &[u32], edges: &[u32], h: Header, w: Walk) -> [u32; ROWS]
 }
 
 // Question 7 from the seat: the folios to which no person has a grant path by any deed.
-fn folios_unreached(sheet: &[u32], edges: &[u32], h: Header, seat: Seat, list: &mut [u32]) -> u32
+fn folios_out_of_reach_at(
+    sheet: &[u32],
+    edges: &[u32],
+    h: Header,
+    seat: Seat,
+    list: &mut [u32],
+) -> u32
     requires { ⌜ AtSeat (now sheet) (now edges) h seat × (length (now list) ≡ maxEdges) ⌝ }
-    ensures { λ r. ⌜ Finds (UnreachedAre (seenFrom (now (sheet .entry)) seat)) (now (list .exit)) r ⌝ }
+    ensures { λ r. ⌜ Finds (FoliosOutOfReachAre (seenFrom (now (sheet .entry)) seat)) (now (list .exit)) r ⌝ }
 {
     let w = walk::walk_of(seat, GRANT, 0);
     let d = persons_lead(sheet, edges, h, w);
@@ -353,21 +359,21 @@ fn found(
     ensures { λ r. ⌜ Finds (soughtIs number (now (sheet .entry)) q) (now (list .exit)) r ⌝ }
 {
     if number == 5 {
-        return persons_within(sheet, edges, h, seat, q, list);
+        return persons_in_category_at(sheet, edges, h, seat, q, list);
     }
     if number == 6 {
-        return persons_holding(sheet, edges, h, seat, q, list);
+        return persons_with_grant_at(sheet, edges, h, seat, q, list);
     }
     if number == 7 {
-        return folios_unreached(sheet, edges, h, seat, list);
+        return folios_out_of_reach_at(sheet, edges, h, seat, list);
     }
     if number == 8 {
-        return least::least_both(sheet, edges, h, seat, list);
+        return least::least_triple_at(sheet, edges, h, seat, list);
     }
     if number == 9 {
-        return least::least_pair(sheet, edges, h, seat, q, list);
+        return least::least_holder_at(sheet, edges, h, seat, q, list);
     }
-    redundant::redundant_rows(sheet, edges, h, seat, list)
+    redundant::redundant_edges_at(sheet, edges, h, seat, list)
 }
 
 // A question's answer from the seat, where nothing is refused but 26 and 25.
@@ -426,42 +432,42 @@ fn sought(number: u32, sheet: &[u32], q: Question, out: &mut [u32]) -> Answer
 
 // Question 5, the numbers of the persons in a category, directly or through containment, rising; how many in `count`.
 pub fn persons_in_category(sheet: &[u32], q: Question, out: &mut [u32]) -> Answer
-    ensures { λ a. ⌜ ListsPersons (now (sheet .entry)) q (now (out .entry)) a (now (out .exit)) ⌝ }
+    ensures { λ a. ⌜ ListsPersonsInCategory (now (sheet .entry)) q (now (out .entry)) a (now (out .exit)) ⌝ }
 {
     sought(5, sheet, q, out)
 }
 
 // Question 6, the numbers of the persons who have a grant path for a deed and a folio, rising; how many in `count`.
 pub fn persons_with_grant(sheet: &[u32], q: Question, out: &mut [u32]) -> Answer
-    ensures { λ a. ⌜ ListsHolders (now (sheet .entry)) q (now (out .entry)) a (now (out .exit)) ⌝ }
+    ensures { λ a. ⌜ ListsPersonsWithGrant (now (sheet .entry)) q (now (out .entry)) a (now (out .exit)) ⌝ }
 {
     sought(6, sheet, q, out)
 }
 
 // Question 7, the numbers of the folios to which no person has a grant path by any deed, rising; how many in `count`.
 pub fn folios_out_of_reach(sheet: &[u32], q: Question, out: &mut [u32]) -> Answer
-    ensures { λ a. ⌜ ListsUnreached (now (sheet .entry)) q (now (out .entry)) a (now (out .exit)) ⌝ }
+    ensures { λ a. ⌜ ListsFoliosOutOfReach (now (sheet .entry)) q (now (out .entry)) a (now (out .exit)) ⌝ }
 {
     sought(7, sheet, q, out)
 }
 
 // Question 8, the least triple that is Both: person, deed and folio; 3 in `count`, 26 where there is none.
 pub fn least_triple(sheet: &[u32], q: Question, out: &mut [u32]) -> Answer
-    ensures { λ a. ⌜ ShowsLeastBoth (now (sheet .entry)) q (now (out .entry)) a (now (out .exit)) ⌝ }
+    ensures { λ a. ⌜ ShowsLeastTriple (now (sheet .entry)) q (now (out .entry)) a (now (out .exit)) ⌝ }
 {
     sought(8, sheet, q, out)
 }
 
 // Question 9, the least person and folio with a grant path for each of two deeds; 2 in `count`, 26 where there is none.
 pub fn least_holder(sheet: &[u32], q: Question, out: &mut [u32]) -> Answer
-    ensures { λ a. ⌜ ShowsLeastPair (now (sheet .entry)) q (now (out .entry)) a (now (out .exit)) ⌝ }
+    ensures { λ a. ⌜ ShowsLeastHolder (now (sheet .entry)) q (now (out .entry)) a (now (out .exit)) ⌝ }
 {
     sought(9, sheet, q, out)
 }
 
 // Question 10, the rows of the edge table that are redundant at an office, by index from 0, rising; how many in `count`.
 pub fn redundant_edges(sheet: &[u32], q: Question, out: &mut [u32]) -> Answer
-    ensures { λ a. ⌜ ListsRedundant (now (sheet .entry)) q (now (out .entry)) a (now (out .exit)) ⌝ }
+    ensures { λ a. ⌜ ListsRedundantEdges (now (sheet .entry)) q (now (out .entry)) a (now (out .exit)) ⌝ }
 {
     sought(10, sheet, q, out)
 }

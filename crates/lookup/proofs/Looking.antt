@@ -44,7 +44,7 @@ found-nowhere s h k x e f q = go (subst (FoundIs (nodeKeyAt s) (h .nodes) k) q f
 -- ---- whether a sheet has the identity
 
 -- a row that stands: its words are there
-pub record Row (s : List ℕ) (k : Key) (r : ℕ) : Type 0 where
+pub record StandingRow (s : List ℕ) (k : Key) (r : ℕ) : Type 0 where
   pub row : ℕ
   pub inside : row < headerOf s .nodes
   pub names : nodeKeyAt s row ≡ k
@@ -52,12 +52,12 @@ pub record Row (s : List ℕ) (k : Key) (r : ℕ) : Type 0 where
   pub room : r + 4 ≤ length s
   pub low : r ≤ 20000
 
-pub stands-row : (s : List ℕ) (k : Key) (r : ℕ) → Accepted s → StandsAt s k r → r < length s → Row s k r
+pub stands-row : (s : List ℕ) (k : Key) (r : ℕ) → Accepted s → StandsAt s k r → r < length s → StandingRow s k r
 stands-row s k r acc (at-row i l e) h = record { row = i; inside = l; names = e; place = refl; room = omega (arith, l, acc .nodes .header .whole); low = omega (arith, l, acc .nodes .header .nodes) }
 stands-row s k r acc (nowhere n) h = absurd (omega arith)
 
 -- the row whose words start there
-row-counted : (s : List ℕ) (k : Key) (r : ℕ) (x : Row s k r) → (r - 6) / 4 ≡ x .row
+row-counted : (s : List ℕ) (k : Key) (r : ℕ) (x : StandingRow s k r) → (r - 6) / 4 ≡ x .row
 row-counted s k r x = omega (arith, x .place)
 
 pub identity-in : (s : List ℕ) (k : Key) (i : ℕ) → i < headerOf s .nodes → nodeKeyAt s i ≡ k → hasIdentity s k ≡ true
@@ -134,11 +134,11 @@ module _ (a b : List ℕ) (k : Key) where
         go false e = absurd (omega (arith, e))
 
     -- the row that a search found in the first sheet
-    pub first-row : (i : ℕ) → r .number ≡ 0 → StandsAt a k i → i < length a → Row a k i
+    pub first-row : (i : ℕ) → r .number ≡ 0 → StandsAt a k i → i < length a → StandingRow a k i
     first-row i z st l = stands-row a k i (both-accepted z .0) st l
 
     -- the second sheet has what the first has not, so its row stands there
-    pub second-row : (i j : ℕ) → r .number ≡ 0 → StandsAt a k i → length a ≤ i → StandsAt b k j → Row b k j
+    pub second-row : (i j : ℕ) → r .number ≡ 0 → StandsAt a k i → length a ≤ i → StandsAt b k j → StandingRow b k j
     second-row i j z st l su =
         let A = both-accepted z in
         stands-row b k j (A .1) su (has-place b k j (A .1) su (in-other z (has-none a k i (A .0) st l)))
@@ -151,10 +151,10 @@ module _ (a b : List ℕ) (k : Key) where
     answers : (x : Answer) (sheet row : ℕ) → r .number ≡ 0 → StandsIn a b k sheet row → x ≡ tells sheet row → PlacesIdentity a b k x
     answers x sheet row z st e = subst (λ (y : Answer). PlacesIdentity a b k y) (sym e) (Replies.answered sheet row (fault ∙ z) st)
 
-    pub places-first : (x : Answer) (at row : ℕ) → r .number ≡ 0 → Row a k at → row ≡ (at - 6) / 4 → x ≡ tells 1 row → PlacesIdentity a b k x
+    pub places-first : (x : Answer) (at row : ℕ) → r .number ≡ 0 → StandingRow a k at → row ≡ (at - 6) / 4 → x ≡ tells 1 row → PlacesIdentity a b k x
     places-first x at row z w q e = answers x 1 row z (subst (StandsIn a b k 1) (sym (q ∙ row-counted a k at w)) (of-first (w .row) (w .inside) (w .names))) e
 
-    pub places-second : (x : Answer) (at row : ℕ) → r .number ≡ 0 → hasIdentity a k ≡ false → Row b k at → row ≡ (at - 6) / 4 → x ≡ tells 2 row → PlacesIdentity a b k x
+    pub places-second : (x : Answer) (at row : ℕ) → r .number ≡ 0 → hasIdentity a k ≡ false → StandingRow b k at → row ≡ (at - 6) / 4 → x ≡ tells 2 row → PlacesIdentity a b k x
     places-second x at row z h w q e = answers x 2 row z (subst (StandsIn a b k 2) (sym (q ∙ row-counted b k at w)) (of-second (w .row) h (w .inside) (w .names))) e
 
 -- ---- which part is given
@@ -175,20 +175,20 @@ module _ (a b : Part) (k k′ : Key) (r : Refusal) (f : r ≡ lookFault (a .word
   fault-of = sym (ap (λ (x : Refusal). x .number) f)
 
   -- by the key that was asked for
-  asked : (x y : Part) → x ≡ y → LooksUp a b k x → LooksUp a b k′ y
-  asked x y e w = subst (λ (p : Part). LooksUp a b k′ p) e (subst (λ (j : Key). LooksUp a b j x) named w)
+  by-key : (x y : Part) → x ≡ y → LooksUp a b k x → LooksUp a b k′ y
+  by-key x y e w = subst (λ (p : Part). LooksUp a b k′ p) e (subst (λ (j : Key). LooksUp a b j x) named w)
 
   pub gives-none : (r .number ≡ 0 → ⊥) → LooksUp a b k′ (reached a 0 0)
-  gives-none z = asked _ _ (reached-is a 0 0 0 refl) (refused (λ e. z (sym fault-of ∙ e)))
+  gives-none z = by-key _ _ (reached-is a 0 0 0 refl) (refused (λ e. z (sym fault-of ∙ e)))
 
-  pub gives-first : (at : ℕ) → r .number ≡ 0 → Row (a .words) k at → LooksUp a b k′ (reached a at (at + 4))
+  pub gives-first : (at : ℕ) → r .number ≡ 0 → StandingRow (a .words) k at → LooksUp a b k′ (reached a at (at + 4))
   gives-first at z x =
-      asked _ _ (reached-is a at (at + 4) nodeWords refl)
+      by-key _ _ (reached-is a at (at + 4) nodeWords refl)
       (subst (λ (y : ℕ). LooksUp a b k (stretch a y nodeWords)) (sym (x .place)) (in-first (x .row) (fault-of ∙ z) (x .inside) (x .names)))
 
-  pub gives-second : (at : ℕ) → r .number ≡ 0 → hasIdentity (a .words) k ≡ false → Row (b .words) k at → LooksUp a b k′ (reached b at (at + 4))
+  pub gives-second : (at : ℕ) → r .number ≡ 0 → hasIdentity (a .words) k ≡ false → StandingRow (b .words) k at → LooksUp a b k′ (reached b at (at + 4))
   gives-second at z h x =
-      asked _ _ (reached-is b at (at + 4) nodeWords refl)
+      by-key _ _ (reached-is b at (at + 4) nodeWords refl)
       (subst (λ (y : ℕ). LooksUp a b k (stretch b y nodeWords)) (sym (x .place)) (in-second (x .row) (fault-of ∙ z) h (x .inside) (x .names)))
 
 -- by the key that was asked for

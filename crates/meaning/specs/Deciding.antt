@@ -3,7 +3,7 @@
 use Prim.Native.Nat.{ℕ, suc, _<_}
 use Rattle.tables.specs.Office.{View}
 use Rattle.meaning.specs.Paths.{Side, HasPath}
-use Rattle.meaning.specs.Answers.{AnswerIs, told, other, Joint, undetermined}
+use Rattle.meaning.specs.Answers.{AnswerIs, sideAnswer, other, Joint, undetermined}
 use Rattle.meaning.specs.Source.{Prior}
 
 -- of n offices that see `at`, asked for a person, a deed and a folio
@@ -16,8 +16,8 @@ module _ (at : ℕ → View) (n p d f : ℕ) where
 
   -- one side first: the side's relation, or else the other's, or else neither, with the office that decides
   pub data SideFirst (side : Side) : Joint → Type 0 where
-    prior : (i : ℕ) → LowestOf side i → SideFirst side (record { answer = told side; office = suc i })
-    yields : (i : ℕ) → (Prior at n side p d f → ⊥) → LowestOf (other side) i → SideFirst side (record { answer = told (other side); office = suc i })
+    prior : (i : ℕ) → LowestOf side i → SideFirst side (record { answer = sideAnswer side; office = suc i })
+    yields : (i : ℕ) → (Prior at n side p d f → ⊥) → LowestOf (other side) i → SideFirst side (record { answer = sideAnswer (other side); office = suc i })
     neither : (Prior at n side p d f → ⊥) → (Prior at n (other side) p d f → ⊥) → SideFirst side undetermined
 
   -- the first office that is not undetermined, with its own answer

@@ -16,14 +16,14 @@ use Rattle.claim.proofs.Single.{listed-single}
 use Rattle.lists.proofs.Single.{persons-single, holders-single, unreached-single, triple-single, pair-single, redundant-single}
 use Rattle.opened.specs.declared.Opened.{Opened}
 use Rattle.opened.specs.declared.Which.{Which}
-use Rattle.opened.specs.declared.Which.the-variants.{AtOffice, Joint, Witness, PersonsInCategory, PersonsWithGrant, FoliosOutOfReach, LeastTriple, LeastHolder, RedundantEdges}
-use Rattle.opened.specs.Asking.{questionOf, Answers}
+use Rattle.opened.specs.declared.Which.the-variants.{AnswerAtOffice, JointAnswer, Witness, PersonsInCategory, PersonsWithGrant, FoliosOutOfReach, LeastTriple, LeastHolder, RedundantEdges}
+use Rattle.opened.specs.Asking.{questionOf, Promised}
 
 -- every question but question 4
-pub answers-one : (which : Which) (s : List ℕ) (q : Question) (before : List ℕ) {a b : Answer} {after after′ : List ℕ} → Answers (questionOf which) s q before a after → Answers (questionOf which) s q before b after′ → (a ≡ b) × (after ≡ after′)
-unfolding questionOf Answers
-answers-one AtOffice s q before x y = (replies-one _ _ (answer-single (asked s q) (q .person) (q .deed) (q .folio)) (x .0) (y .0), x .1 ∙ sym (y .1))
-answers-one Joint s q before x y = (replies-one _ _ (joint-single (seenAt s) (headerOf s .offices) (q .rule) (q .person) (q .deed) (q .folio)) (x .0) (y .0), x .1 ∙ sym (y .1))
+pub answers-one : (which : Which) (s : List ℕ) (q : Question) (before : List ℕ) {a b : Answer} {after after′ : List ℕ} → Promised (questionOf which) s q before a after → Promised (questionOf which) s q before b after′ → (a ≡ b) × (after ≡ after′)
+unfolding questionOf Promised
+answers-one AnswerAtOffice s q before x y = (replies-one _ _ (answer-single (asked s q) (q .person) (q .deed) (q .folio)) (x .0) (y .0), x .1 ∙ sym (y .1))
+answers-one JointAnswer s q before x y = (replies-one _ _ (joint-single (seenAt s) (headerOf s .offices) (q .rule) (q .person) (q .deed) (q .folio)) (x .0) (y .0), x .1 ∙ sym (y .1))
 answers-one Witness s q before x y = witness-single (asked s q) (sideOf (q .kind)) (q .person) (q .deed) (q .folio) _ before x y
 answers-one PersonsInCategory s q before x y = persons-single (asked s q) _ before (q .category) x y
 answers-one PersonsWithGrant s q before x y = holders-single (asked s q) _ before (q .deed) (q .folio) x y
@@ -37,8 +37,8 @@ pub list-one : (s : List ℕ) (q : Question) (list : List ℕ) {a b : Answer} �
 list-one s q list x y = replies-one _ _ (listed-single _) x y
 
 -- an opened sheet, made up by hand or not, answers as the words that it holds
-pub opened-answers : (which : Which) (o : Opened) (words : RefT (List ℕ)) (q : Question) (before : List ℕ) {a b : Answer} {after after′ : List ℕ} → o .words ≡ words → Answers (questionOf which) (now (o .words)) q before a after → Answers (questionOf which) (now words) q before b after′ → (a ≡ b) × (after ≡ after′)
-opened-answers which o words q before {a} {b} {after} {after′} e x = answers-one which (now words) q before (subst (λ (r : RefT (List ℕ)). Answers (questionOf which) (now r) q before a after) e x)
+pub opened-answers : (which : Which) (o : Opened) (words : RefT (List ℕ)) (q : Question) (before : List ℕ) {a b : Answer} {after after′ : List ℕ} → o .words ≡ words → Promised (questionOf which) (now (o .words)) q before a after → Promised (questionOf which) (now words) q before b after′ → (a ≡ b) × (after ≡ after′)
+opened-answers which o words q before {a} {b} {after} {after′} e x = answers-one which (now words) q before (subst (λ (r : RefT (List ℕ)). Promised (questionOf which) (now r) q before a after) e x)
 
 pub opened-list : (o : Opened) (words : RefT (List ℕ)) (q : Question) (list : List ℕ) {a b : Answer} → o .words ≡ words → TellsPath (now (o .words)) q list a → TellsPath (now words) q list b → a ≡ b
 opened-list o words q list {a} {b} e x = list-one (now words) q list (subst (λ (r : RefT (List ℕ)). TellsPath (now r) q list a) e x)

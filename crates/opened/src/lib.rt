@@ -5,7 +5,7 @@ use sheet::Header;
 ghost use mathlib.Core.Path.{_≡_};
 ghost use Rattle.sheet.specs.Rows.{word, headerOf};
 ghost use Rattle.claim.specs.Promises.{TellsPath};
-ghost use Rattle.opened.specs.Asking.{questionOf, Answers};
+ghost use Rattle.opened.specs.Asking.{questionOf, Promised};
 
 // A sheet that was opened: the caller's words, and the counts that its header names. No question looks at the counts.
 pub struct Opened<'a> {
@@ -16,8 +16,8 @@ pub struct Opened<'a> {
 
 // Which question is asked: all but question 4, which is asked of a list.
 pub enum Which {
-    AtOffice,
-    Joint,
+    AnswerAtOffice,
+    JointAnswer,
     Witness,
     PersonsInCategory,
     PersonsWithGrant,
@@ -52,12 +52,12 @@ fn header_named(words: &[u32]) -> Header
 }
 
 // A question of bare words. Questions 1 and 2 leave the output as it was.
-fn asked(sheet: &[u32], which: Which, q: Question, out: &mut [u32]) -> Answer
-    ensures { λ a. ⌜ Answers (questionOf which) (now (sheet .entry)) q (now (out .entry)) a (now (out .exit)) ⌝ }
+fn ask_words(sheet: &[u32], which: Which, q: Question, out: &mut [u32]) -> Answer
+    ensures { λ a. ⌜ Promised (questionOf which) (now (sheet .entry)) q (now (out .entry)) a (now (out .exit)) ⌝ }
 {
     match which {
-        Which::AtOffice => ask::answer_at_office(sheet, q),
-        Which::Joint => ask::joint_answer(sheet, q),
+        Which::AnswerAtOffice => ask::answer_at_office(sheet, q),
+        Which::JointAnswer => ask::joint_answer(sheet, q),
         Which::Witness => ask::witness(sheet, q, out),
         Which::PersonsInCategory => lists::persons_in_category(sheet, q, out),
         Which::PersonsWithGrant => lists::persons_with_grant(sheet, q, out),
@@ -83,9 +83,9 @@ pub fn open<'a>(words: &'a [u32]) -> Opened<'a>
 impl<'a> Opened<'a> {
     // Any question but question 4: what the bare words answer, whatever the counts say.
     pub fn ask(self, which: Which, q: Question, out: &mut [u32]) -> Answer
-        ensures { λ a. ⌜ Answers (questionOf which) (now (self .entry .words)) q (now (out .entry)) a (now (out .exit)) ⌝ }
+        ensures { λ a. ⌜ Promised (questionOf which) (now (self .entry .words)) q (now (out .entry)) a (now (out .exit)) ⌝ }
     {
-        asked(self.words, which, q, out)
+        ask_words(self.words, which, q, out)
     }
 
     // Question 4: what the bare words answer, whatever the counts say.
@@ -98,7 +98,7 @@ impl<'a> Opened<'a> {
 
 // Opens a sheet and asks it one question, for callers that hold no opened sheet.
 pub fn open_and_ask(sheet: &[u32], which: Which, q: Question, out: &mut [u32]) -> Answer
-    ensures { λ a. ⌜ Answers (questionOf which) (now (sheet .entry)) q (now (out .entry)) a (now (out .exit)) ⌝ }
+    ensures { λ a. ⌜ Promised (questionOf which) (now (sheet .entry)) q (now (out .entry)) a (now (out .exit)) ⌝ }
 {
     open(sheet).ask(which, q, out)
 }

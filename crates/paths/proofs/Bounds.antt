@@ -9,7 +9,7 @@ use mathlib.Core.List.{List, [], _∷_}
 use lib.Dec.{ltb}
 use lib.ListN.{length, getD}
 use borrow.Author.Tests.{lt-ltb, le-ltb}
-use Rattle.paths.specs.Steps.{Reached, then, Layers}
+use Rattle.paths.specs.Reached.{Reached, then, Layers}
 
 -- how many numbers of a list are not above v
 atMost : ℕ → List ℕ → ℕ
@@ -25,8 +25,8 @@ at-most-all v (x ∷ d) = go (ltb v x) (at-most-all v d)
     go true h = omega arith
     go false h = omega arith
 
-one-more : (v x : ℕ) → cond (ltb v x) 0 1 ≤ cond (ltb (suc v) x) 0 1
-one-more v x = go (decLt v x)
+one-below : (v x : ℕ) → cond (ltb v x) 0 1 ≤ cond (ltb (suc v) x) 0 1
+one-below v x = go (decLt v x)
   where
     go : Dec (v < x) → cond (ltb v x) 0 1 ≤ cond (ltb (suc v) x) 0 1
     go (yes l) = rw (lt-ltb v x l) (omega arith)
@@ -35,14 +35,14 @@ one-more v x = go (decLt v x)
 at-most-more : (v : ℕ) (d : List ℕ) → atMost v d ≤ atMost (suc v) d
 unfolding atMost
 at-most-more v [] = omega arith
-at-most-more v (x ∷ d) = omega (arith, one-more v x, at-most-more v d)
+at-most-more v (x ∷ d) = omega (arith, one-below v x, at-most-more v d)
 
 -- a number that is there counts
 at-most-new : (v : ℕ) (d : List ℕ) (i : ℕ) → getD d i 0 ≡ suc v → suc (atMost v d) ≤ atMost (suc v) d
 unfolding atMost
 at-most-new v [] i e = absurd (omega (arith, e))
 at-most-new v (x ∷ d) zero e = rw (lt-ltb v x (omega (arith, e)), le-ltb (suc v) x (omega (arith, e))) (omega (arith, at-most-more v d))
-at-most-new v (x ∷ d) (suc i) e = omega (arith, one-more v x, at-most-new v d i e)
+at-most-new v (x ∷ d) (suc i) e = omega (arith, one-below v x, at-most-new v d i e)
 
 abbrev Occurs : List ℕ → ℕ → Type 0
 Occurs d u = (i : ℕ) × (getD d i 0 ≡ u)

@@ -7,7 +7,7 @@ use Prim.Native.Nat.{ℕ, zero, suc, _+_, _<_, _≤_}
 use native.Mathlib.Nat.{eq-or-lt-of-le}
 use native.Mathlib.Omega.{arith}
 use lib.ListN.{getD}
-use Rattle.paths.specs.Steps.{Reached, start, then, Layers, Spread}
+use Rattle.paths.specs.Reached.{Reached, start, then, Layers, Spread}
 
 -- a number is 0 or a successor
 pub zero-or : (n : ℕ) → (n ≡ 0) ⊎ ((m : ℕ) × (n ≡ suc m))

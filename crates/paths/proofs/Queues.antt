@@ -9,7 +9,7 @@ use native.Mathlib.Numerals.{add-one}
 use native.Mathlib.Omega.{arith}
 use lib.ListN.{length, getD, set, drop, length-drop}
 use lib.Seq.{drop-cons, getD-set-same, getD-set-other}
-use Rattle.paths.specs.Steps.{Layers, zeros, Queued, Waiting, Round}
+use Rattle.paths.specs.Reached.{Layers, zeros, Queued, Waiting, Round}
 use Rattle.paths.proofs.Distances.{zero-or, Sofar, outset, sofar-more, sofar-all}
 use Rattle.paths.proofs.Rounds.{zeros-length, spread-stay}
 

@@ -11,15 +11,15 @@ use native.Mathlib.Numerals.{add-one}
 use native.Mathlib.Omega.{arith}
 use lib.ListN.{length, getD, set, length-set}
 use lib.Seq.{getD-set-same, getD-set-other}
-use Rattle.paths.specs.Steps.{Via, Spread, zeros, Queued, Round, LeastNext}
+use Rattle.paths.specs.Reached.{Via, Spread, zeros, Queued, Round, LeastNext}
 use Rattle.paths.proofs.Distances.{zero-or}
 
 pub positive : (n : ℕ) → (n ≡ 0 → ⊥) → 0 < n
 positive zero h = absurd (h refl)
 positive (suc n) h = omega arith
 
-pub same-or : (i j : ℕ) → (i ≡ j) ⊎ (i ≡ j → ⊥)
-same-or i j = elim (ℕ-discrete i j) [ yes p ↦ inl p | no q ↦ inr q ]
+pub same-number-or : (i j : ℕ) → (i ≡ j) ⊎ (i ≡ j → ⊥)
+same-number-or i j = elim (ℕ-discrete i j) [ yes p ↦ inl p | no q ↦ inr q ]
 
 pub zeros-set : (l : List ℕ) (i v : ℕ) → i < length l → getD l i 0 ≡ 0 → zeros (set l i (suc v)) + 1 ≡ zeros l
 unfolding zeros
@@ -42,8 +42,8 @@ module _ (on : ℕ → Bool) (near far : ℕ → ℕ) (k : ℕ) where
       record { row = t .row; inside = omega arith; is = t .is; leaves = t .leaves; enters = t .enters }
 
   -- a step by a row below k + 1 goes by a row below k or by row k
-  pub parts : {a i : ℕ} → Via on near far (k + 1) a i → Via on near far k a i ⊎ ((on k ≡ true) × (near k ≡ a) × (far k ≡ i))
-  parts {a} {i} t = ⊎-elim at below (eq-or-lt-of-le w)
+  pub by-parts : {a i : ℕ} → Via on near far (k + 1) a i → Via on near far k a i ⊎ ((on k ≡ true) × (near k ≡ a) × (far k ≡ i))
+  by-parts {a} {i} t = ⊎-elim at below (eq-or-lt-of-le w)
     where
       w : t .row ≤ k
       w = let w' = t .inside in omega arith
@@ -79,17 +79,17 @@ module _ (R : ℕ → ℕ → Type 0) (v : ℕ) (d q : List ℕ) (n x y : ℕ) (
   here : getD (set d y (v + 1)) y 0 ≡ suc v
   here = getD-set-same d y (v + 1) 0 fits ∙ add-one v
 
-  other : (i : ℕ) → (i ≡ y → ⊥) → getD (set d y (v + 1)) i 0 ≡ getD d i 0
-  other i w = getD-set-other d y i (v + 1) 0 w
+  other-kept : (i : ℕ) → (i ≡ y → ⊥) → getD (set d y (v + 1)) i 0 ≡ getD d i 0
+  other-kept i w = getD-set-other d y i (v + 1) 0 w
 
   spread-put : Spread R v d (set d y (v + 1))
   spread-put = record { kept = kept; new = new; all = all }
     where
       kept : (i : ℕ) → 0 < getD d i 0 → getD (set d y (v + 1)) i 0 ≡ getD d i 0
-      kept i h = other i (λ w. let e = rw w at h in omega arith)
+      kept i h = other-kept i (λ w. let e = rw w at h in omega arith)
 
       new : (i : ℕ) → getD d i 0 ≡ 0 → (getD (set d y (v + 1)) i 0 ≡ 0) ⊎ ((getD (set d y (v + 1)) i 0 ≡ suc v) × ((a : ℕ) × (getD d a 0 ≡ v) × R a i))
-      new i z₀ = ⊎-elim (λ w. inr (rw w here, (x, l, rw w st))) (λ w. inl (other i w ∙ z₀)) (same-or i y)
+      new i z₀ = ⊎-elim (λ w. inr (rw w here, (x, l, rw w st))) (λ w. inl (other-kept i w ∙ z₀)) (same-number-or i y)
 
       all : (a i : ℕ) → R a i → getD d a 0 ≡ v → 0 < getD (set d y (v + 1)) i 0
       all a i t lv = rw (only a i t) (omega (arith, here))
@@ -113,7 +113,7 @@ module _ (R : ℕ → ℕ → Type 0) (v : ℕ) (d q : List ℕ) (n x y : ℕ) (
       came : (i : ℕ) → getD d i 0 ≡ 0 → 0 < getD (set d y (v + 1)) i 0 → Queued (set q n y) n (n + 1) i
       came i z₀ h =
           ⊎-elim (λ w. record { place = n; from = omega arith; below = omega arith; is = getD-set-same q n y 0 room ∙ sym w })
-          (λ w. let e = other i w in absurd (omega arith)) (same-or i y)
+          (λ w. let e = other-kept i w in absurd (omega arith)) (same-number-or i y)
 
       led : (k : ℕ) → n ≤ k → k < n + 1 → (a : ℕ) × R a (getD (set q n y) k 0)
       led k g h = let e : k ≡ n = omega arith in (x, rw (e, getD-set-same q n y 0 room) st)
@@ -211,7 +211,7 @@ module _ (on : ℕ → Bool) (near far : ℕ → ℕ) (k : ℕ) (limit : ℕ) (d
       record {
         most = ne .most;
         found = λ l. let p = ne .found l in (p .0, wider on near far k (p .1));
-        low = λ b t q. ⊎-elim (λ t'. ne .low b t' q) (λ p. rw (p .2) at (h (p .0) (p .1) (rw (p .2) q))) (parts on near far k t);
+        low = λ b t q. ⊎-elim (λ t'. ne .low b t' q) (λ p. rw (p .2) at (h (p .0) (p .1) (rw (p .2) q))) (by-parts on near far k t);
       }
 
   module _ (x b : ℕ) (ex : x ≡ near k) (eb : b ≡ far k) where
@@ -220,7 +220,7 @@ module _ (on : ℕ → Bool) (near far : ℕ → ℕ) (k : ℕ) (limit : ℕ) (d
         record {
           most = let y = ne .most in omega arith;
           found = λ _. (q, record { row = k; inside = omega arith; is = c; leaves = sym ex ∙ xa; enters = sym eb });
-          low = λ b' t q'. ⊎-elim (λ t'. let y = ne .low b' t' q' in omega arith) (λ p. let p2 = p .2 in omega arith) (parts on near far k t);
+          low = λ b' t q'. ⊎-elim (λ t'. let y = ne .low b' t' q' in omega arith) (λ p. let p2 = p .2 in omega arith) (by-parts on near far k t);
         }
 
 pub next-none : (on : ℕ → Bool) (near far : ℕ → ℕ) (limit : ℕ) (d : List ℕ) (a w : ℕ) → LeastNext limit (Via on near far 0) d a w limit

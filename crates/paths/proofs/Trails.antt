@@ -9,7 +9,7 @@ use native.Mathlib.Omega.{arith}
 use native.Mathlib.Numerals.{add-one}
 use lib.ListN.{length, getD, set, drop, length-set, length-append}
 use lib.Seq.{drop-cons, set-at, ext-getD}
-use Rattle.paths.specs.Steps.{Reached, start, then, Layers, LeastNext}
+use Rattle.paths.specs.Reached.{Reached, start, then, Layers, LeastNext}
 use Rattle.paths.specs.Best.{Trail, ends, goes, Before, none, less, same, Best, Traced}
 use Rattle.paths.proofs.Distances.{zero-or}
 

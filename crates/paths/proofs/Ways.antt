@@ -43,9 +43,9 @@ module _ (step : ℕ → ℕ → Bool) (ends : ℕ → Bool) where
       go (inr q) later = later q
 
   -- one step more, shortened where it would repeat a number
-  longer : (a b : ℕ) → step a b ≡ true → Way step ends b → Way step ends a
+  way-longer : (a b : ℕ) → step a b ≡ true → Way step ends b → Way step ends a
   unfolding leads
-  longer a b s w = go (either (among a (b ∷ w .by)))
+  way-longer a b s w = go (either (among a (b ∷ w .by)))
     where
       go : (among a (b ∷ w .by) ≡ true) ⊎ (among a (b ∷ w .by) ≡ false) → Way step ends a
       go (inl m) = suffix a b (w .by) m (w .leads-on)
@@ -55,7 +55,7 @@ module _ (step : ℕ → ℕ → Bool) (ends : ℕ → Bool) where
   pub shortened : {a c : ℕ} → Reach step a c → ends c ≡ true → Way step ends a
   unfolding leads
   shortened here e = record { by = []; leads-on = e }
-  shortened (more {a} {b} s r) e = longer a b s (shortened r e)
+  shortened (more {a} {b} s r) e = way-longer a b s (shortened r e)
 
   -- a way is a walk
   pub walked : (a : ℕ) (bs : List ℕ) → leads step ends a bs ≡ true → End step ends a
@@ -91,6 +91,6 @@ module _ (step : ℕ → ℕ → Bool) where
   joined here q = q
   joined (more s r) q = more s (joined r q)
 
-pub turned : (step : ℕ → ℕ → Bool) {a c : ℕ} → Reach step a c → Reach (λ x y. step y x) c a
-turned step here = here
-turned step (more s r) = joined (λ x y. step y x) (turned step r) (more s here)
+pub reach-back : (step : ℕ → ℕ → Bool) {a c : ℕ} → Reach step a c → Reach (λ x y. step y x) c a
+reach-back step here = here
+reach-back step (more s r) = joined (λ x y. step y x) (reach-back step r) (more s here)

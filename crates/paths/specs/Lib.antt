@@ -1,3 +1,3 @@
 pub mod Leads
-pub mod Steps
+pub mod Reached
 pub mod Best

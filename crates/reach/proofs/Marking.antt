@@ -13,9 +13,9 @@ use borrow.Author.Tests.{eq-eqb, ne-eqb}
 use Rattle.tables.specs.Count.{numberOf}
 use Rattle.sheet.specs.declared.Header.{Header}
 use Rattle.sheet.specs.Limits.{maxNodes}
-use Rattle.paths.specs.Steps.{Reached, start, then, Layers, Starts}
+use Rattle.paths.specs.Reached.{Reached, start, then, Layers, Starts}
 use Rattle.paths.proofs.Distances.{zero-or, reached-map}
-use Rattle.paths.proofs.Rounds.{same-or}
+use Rattle.paths.proofs.Rounds.{same-number-or}
 use Rattle.walk.specs.declared.Walk.{Walk}
 use Rattle.walk.specs.Arcs.{Steps}
 use Rattle.walk.specs.Outset.{Blank}
@@ -68,10 +68,10 @@ module _ (test : ℕ → Bool) (j v : ℕ) (r : List ℕ) (st : Started test j r
   starts-more = record { long = length-set r j v ∙ st .long; low = low; sound = sound; whole = whole }
     where
       low : (i : ℕ) → getD (set r j v) i 0 ≤ 1
-      low i = ⊎-elim (λ q. rw q (omega (arith, at, here, number-low (test j)))) (λ n. omega (arith, off i n, st .low i)) (same-or i j)
+      low i = ⊎-elim (λ q. rw q (omega (arith, at, here, number-low (test j)))) (λ n. omega (arith, off i n, st .low i)) (same-number-or i j)
 
       sound : (i : ℕ) → getD (set r j v) i 0 ≡ 1 → (i < j + 1) × (test i ≡ true)
-      sound i q = ⊎-elim same other (same-or i j)
+      sound i q = ⊎-elim same other (same-number-or i j)
         where
           same : i ≡ j → (i < j + 1) × (test i ≡ true)
           same z = (omega arith, rw z (of-number (test j) (sym here ∙ sym at ∙ (rw z at q))))
@@ -80,7 +80,7 @@ module _ (test : ℕ → Bool) (j v : ℕ) (r : List ℕ) (st : Started test j r
           other n = let o = st .sound i (sym (off i n) ∙ q) in (omega (arith, o .0), o .1)
 
       whole : (i : ℕ) → i < j + 1 → test i ≡ true → getD (set r j v) i 0 ≡ 1
-      whole i l q = ⊎-elim same other (same-or i j)
+      whole i l q = ⊎-elim same other (same-number-or i j)
         where
           same : i ≡ j → getD (set r j v) i 0 ≡ 1
           same z = rw z (at ∙ here ∙ ap numberOf (rw z at q))

@@ -6,7 +6,7 @@ ghost use lib.ListN.{length};
 ghost use Rattle.sheet.specs.Accepted.{WellFormed};
 ghost use Rattle.sheet.specs.Seats.{Seated};
 ghost use Rattle.walk.specs.Arcs.{Arranged};
-ghost use Rattle.reach.specs.Found.{Puts};
+ghost use Rattle.reach.specs.Finds.{Puts};
 ghost use Rattle.reach.specs.Reaching.{ReachedFrom};
 
 // One number for each node row.

@@ -9,13 +9,14 @@ use lib.Dec.{eqb}
 use lib.ListN.{length}
 use Rattle.tables.specs.Key.{Key, relation}
 use Rattle.tables.specs.Office.{View}
+use Rattle.sheet.specs.Kinds.{memberKind, containedKind}
 use Rattle.sheet.specs.declared.Edge.{Edge}
 use Rattle.sheet.specs.declared.Seat.{Seat}
 use Rattle.sheet.specs.Rows.{headerOf, nodeAt, edgeAt, edgeTable, nodeKeyAt}
 use Rattle.sheet.specs.Accepted.{Accepted}
 use Rattle.sheet.specs.Seats.{countsAt, seenFrom}
 use Rattle.paths.specs.Leads.{leads, Reach, here, more, Beyond}
-use Rattle.paths.specs.Steps.{Reached, start, then}
+use Rattle.paths.specs.Reached.{Reached, start, then}
 use Rattle.paths.specs.Best.{Trail, ends, goes}
 use Rattle.paths.proofs.Tests.{and-right}
 use Rattle.meaning.specs.Paths.{Side, rightKind, person, category, deed, member, right, step}
@@ -63,13 +64,13 @@ module _ (s : List ℕ) (acc : Accepted s) (seat : Seat) (side : Side) (j : ℕ)
   abbrev past : Walk
   past = leavingOut w (record { some = true; from = from; to = to })
 
-  abbrev Other : ℕ → ℕ → Type 0
-  Other = Steps s (edgeTable s) past (headerOf s .edges)
+  abbrev OtherSteps : ℕ → ℕ → Type 0
+  OtherSteps = Steps s (edgeTable s) past (headerOf s .edges)
 
   -- the other steps lead from the row's one end to the other
   pub record Past : Type 0 where
     pub steps : ℕ
-    pub reached : Reached Other (λ x. x ≡ from) steps to
+    pub reached : Reached OtherSteps (λ x. x ≡ from) steps to
 
   -- a link by another row
   record Aside (a b : ℕ) : Type 0 where
@@ -86,7 +87,7 @@ module _ (s : List ℕ) (acc : Accepted s) (seat : Seat) (side : Side) (j : ℕ)
 
     -- ---- each other step is a link with other ends, and each such link is another step
 
-    aside-of : (a b : ℕ) → Other a b → Aside a b
+    aside-of : (a b : ℕ) → OtherSteps a b → Aside a b
     aside-of a b x =
         let y = other-step s (edgeTable s) seat (rightKind side) 0 from to (headerOf s .edges) a b x in
         let o = any-step s acc seat side 0 a b y in
@@ -106,7 +107,7 @@ module _ (s : List ℕ) (acc : Accepted s) (seat : Seat) (side : Side) (j : ℕ)
     unfolding headOf
     enters-to = rw straight
 
-    past-step : (a b : ℕ) → Step s acc seat side 0 a b → (a ≡ from → b ≡ to → ⊥) → Other a b
+    past-step : (a b : ℕ) → Step s acc seat side 0 a b → (a ≡ from → b ≡ to → ⊥) → OtherSteps a b
     past-step a b x apart = step-other s (edgeTable s) seat (rightKind side) 0 from to (headerOf s .edges) a b x apart
 
     -- ---- where a walk by other steps leads: types never fall, and from a deed on they rise
@@ -118,7 +119,7 @@ module _ (s : List ℕ) (acc : Accepted s) (seat : Seat) (side : Side) (j : ℕ)
     rises d a b (serves x v f u v′ m) = let x : class a ≡ 3 = cc in let y : class b ≡ 4 = cc in (omega arith, λ h. omega arith)
 
     abbrev Way-on : ℕ → List ℕ → Type 0
-    Way-on z l = Trail Other (λ x. x ≡ to) z l
+    Way-on z l = Trail OtherSteps (λ x. x ≡ to) z l
 
     never-falls : (z : ℕ) (l : List ℕ) → Way-on z l → class z ≤ class to
     never-falls z l (ends e) = omega (arith, ap class e)
@@ -228,7 +229,7 @@ module _ (s : List ℕ) (acc : Accepted s) (seat : Seat) (side : Side) (j : ℕ)
         by (serves x x′ f u u′ m) later = absurd (let i : _≡_ {A = ℕ} 3 2 = cc in omega arith)
 
     listed : Past → (l : List ℕ) × Way-on from l
-    listed P = unrolled Other from to (P .reached) (ends refl)
+    listed P = unrolled OtherSteps from to (P .reached) (ends refl)
 
     -- a member row: another category of the person's leads on to this one
     abbrev Elsewhere : ℕ → ℕ → Type 0
@@ -284,7 +285,7 @@ module _ (s : List ℕ) (acc : Accepted s) (seat : Seat) (side : Side) (j : ℕ)
     record Landed (c : ℕ) : Type 0 where
       pub steps : ℕ
       pub row : ℕ
-      pub reached : Reached Other (λ x. x ≡ from) steps row
+      pub reached : Reached OtherSteps (λ x. x ≡ from) steps row
       pub row-in : row < headerOf s .nodes
       pub names : nodeKeyAt s row ≡ category c
 
@@ -297,7 +298,7 @@ module _ (s : List ℕ) (acc : Accepted s) (seat : Seat) (side : Side) (j : ℕ)
 
     -- the row that was looked for
     landed : (y : ℕ) → nodeKeyAt s to ≡ category y → Landed y → Past
-    landed y v a = record { steps = a .steps; reached = subst (λ (z : ℕ). Reached Other (λ x. x ≡ from) (a .steps) z) (one-node (a .row) to (category y) (a .row-in) to-in (a .names) v) (a .reached) }
+    landed y v a = record { steps = a .steps; reached = subst (λ (z : ℕ). Reached OtherSteps (λ x. x ≡ from) (a .steps) z) (one-node (a .row) to (category y) (a .row-in) to-in (a .names) v) (a .reached) }
 
     outset : (x : ℕ) → nodeKeyAt s from ≡ category x → Landed x
     outset x u = record { steps = 0; row = from; reached = start refl; row-in = from-in; names = u }
@@ -320,7 +321,7 @@ module _ (s : List ℕ) (acc : Accepted s) (seat : Seat) (side : Side) (j : ℕ)
         let y = own-step s acc seat side 0 d (a .row) (o .row) (λ n. absurd (n refl)) (o .arc) in
         record {
           steps = suc (a .steps);
-          reached = then (a .reached) (subst (λ (z : ℕ). Other (a .row) z) (one-node (o .row) to (deed d v) (o .inside) to-in (o .names) t)
+          reached = then (a .reached) (subst (λ (z : ℕ). OtherSteps (a .row) z) (one-node (o .row) to (deed d v) (o .inside) to-in (o .names) t)
               (past-step (a .row) (o .row) y (λ q q′. e .1 (same-number (a .row) from (e .0) x q (a .names) u))));
         }
 
@@ -365,12 +366,12 @@ module _ (s : List ℕ) (acc : Accepted s) (seat : Seat) (side : Side) (j : ℕ)
 
       pub redundant-past : Redundant g (relation (edge j .kind) (nodeKeyAt s from) (nodeKeyAt s to)) → Past
       redundant-past (member-row p y c q n m b) =
-          let z : edge j .kind ≡ 1 = cc in
+          let z : edge j .kind ≡ memberKind = cc in
           let u : nodeKeyAt s from ≡ person p = cc in
           let v : nodeKeyAt s to ≡ category y = cc in
           member-past p y u v (c, n, m, subst (λ (S : Side). Beyond (step g S) c y) (sym (fit ∙ ap sideFor z)) b)
       redundant-past (containment-row x y cs q l e) =
-          let z : edge j .kind ≡ 2 = cc in
+          let z : edge j .kind ≡ containedKind = cc in
           let u : nodeKeyAt s from ≡ category x = cc in
           let v : nodeKeyAt s to ≡ category y = cc in
           contained-past x y cs u v l (subst (λ (S : Side). leads (step g S) (λ c. eqb c y) x cs ≡ true) (sym (fit ∙ ap sideFor z)) e)

@@ -17,12 +17,12 @@ use Rattle.sheet.specs.Rows.{headerOf, edgeAt, edgeTable}
 use Rattle.sheet.specs.Accepted.{WellFormed, Accepted}
 use Rattle.sheet.specs.Named.{edgeRow}
 use Rattle.sheet.specs.Seats.{countsAt}
-use Rattle.paths.specs.Steps.{Layers}
+use Rattle.paths.specs.Reached.{Layers}
 use Rattle.paths.proofs.Distances.{zero-or}
 use Rattle.paths.proofs.Tests.{both}
 use Rattle.meaning.specs.Paths.{Side, rightKind}
 use Rattle.meaning.specs.Answers.{Says}
-use Rattle.meaning.specs.Questions.{RedundantRow, RedundantAre}
+use Rattle.meaning.specs.Questions.{RedundantRow, RedundantEdgesAre}
 use Rattle.walk.specs.declared.LeftOut.{LeftOut}
 use Rattle.walk.specs.Arcs.{takes, Steps, leavingOut}
 use Rattle.ask.proofs.Links.{walkFor, kind-of}
@@ -34,11 +34,11 @@ use Rattle.redundant.proofs.Past.{past-redundant, redundant-past}
 
 module _ (s : List ℕ) (seat : Seat) (j : ℕ) (dist : List ℕ) (b : Bool) where
   -- row j of the edge table t counts for the seat, and b says whether the walk's numbers reach its to end
-  abbrev Judged : List ℕ → Header → Type 0
-  Judged t h = j < h .edges → countsAt seat (edgeAt t j) ≡ true → Layers (Steps s t (leavingOut (walkFor seat (sideFor (edgeAt t j .kind)) 0) (stepOf (edgeAt t j))) (h .edges)) (λ x. x ≡ edgeAt t j .from) dist
+  abbrev RowTested : List ℕ → Header → Type 0
+  RowTested t h = j < h .edges → countsAt seat (edgeAt t j) ≡ true → Layers (Steps s t (leavingOut (walkFor seat (sideFor (edgeAt t j .kind)) 0) (stepOf (edgeAt t j))) (h .edges)) (λ x. x ≡ edgeAt t j .from) dist
       → b ≡ not (eqb (getD dist (edgeAt t j .to) 0) 0) → Says b (RedundantRow s (seat .office) j)
 
-  judged-own : Accepted s → Judged (edgeTable s) (headerOf s)
+  judged-own : Accepted s → RowTested (edgeTable s) (headerOf s)
   unfolding edgeRow takes
   judged-own acc l m y e = says b e
     where
@@ -63,8 +63,8 @@ module _ (s : List ℕ) (seat : Seat) (j : ℕ) (dist : List ℕ) (b : Bool) whe
           let z = eqb-true (getD dist (edge .to) 0) 0 (not-false _ (sym e)) in
           omega arith
 
-  pub judged : (t : List ℕ) (h : Header) → WellFormed s t h → Judged t h
-  judged t h f = subst (λ (x : List ℕ). Judged x h) (sym (f .table)) (subst (λ (x : Header). Judged (edgeTable s) x) (sym (f .head)) (judged-own (words-of s t h f)))
+  pub judged : (t : List ℕ) (h : Header) → WellFormed s t h → RowTested t h
+  judged t h f = subst (λ (x : List ℕ). RowTested x h) (sym (f .table)) (subst (λ (x : Header). RowTested (edgeTable s) x) (sym (f .head)) (judged-own (words-of s t h f)))
 
 -- ---- the same, as the functions have it
 
@@ -87,7 +87,7 @@ redundant-by s t h f seat j e dist b q l o but z p =
     o (subst (λ (x : LeftOut). PastRow s t h seat (e .kind) x dist) z p)
 
 -- the rows collected are all that there are
-pub pruned-all : (s t : List ℕ) (h : Header) → WellFormed s t h → (office j : ℕ) (out : List ℕ) → h .edges ≤ j → Collected (RedundantRow s office) (λ i. i) j out → RedundantAre s office out
+pub pruned-all : (s t : List ℕ) (h : Header) → WellFormed s t h → (office j : ℕ) (out : List ℕ) → h .edges ≤ j → Collected (RedundantRow s office) (λ i. i) j out → RedundantEdgesAre s office out
 pruned-all s t h f office j out l c =
     collected-all _ _ j out (RedundantRow s office) c (λ x r. subst (RedundantRow s office) (r .is) (r .counts))
     (λ x r. record { row = x; inside = let e = ap (λ (y : Header). y .edges) (f .head) in let i = r .inside in omega arith; counts = r; is = refl })

@@ -11,7 +11,7 @@ use Rattle.sheet.specs.declared.Header.{Header}
 use Rattle.sheet.specs.declared.Seat.{Seat}
 use Rattle.sheet.specs.Limits.{maxNodes}
 use Rattle.sheet.specs.Refusals.{_is_}
-use Rattle.paths.specs.Steps.{Layers}
+use Rattle.paths.specs.Reached.{Layers}
 use Rattle.meaning.specs.Paths.{Side, grant, ban, rightKind}
 use Rattle.walk.specs.declared.Walk.{Walk}
 use Rattle.walk.specs.declared.LeftOut.{LeftOut}

@@ -12,9 +12,9 @@ ghost use Rattle.sheet.specs.Limits.{maxEdges};
 ghost use Rattle.sheet.specs.Accepted.{WellFormed};
 ghost use Rattle.sheet.specs.Seats.{Seated};
 ghost use Rattle.meaning.specs.Answers.{Says};
-ghost use Rattle.meaning.specs.Questions.{RedundantRow, RedundantAre};
+ghost use Rattle.meaning.specs.Questions.{RedundantRow, RedundantEdgesAre};
 ghost use Rattle.question.specs.Checked.{AtSeat};
-ghost use Rattle.reach.specs.Found.{Finds};
+ghost use Rattle.reach.specs.Finds.{Finds};
 ghost use Rattle.redundant.specs.Pruned.{BothArranged, stepOf, PastRow};
 
 // One number for each node row.
@@ -95,7 +95,7 @@ fn prune(
     list: &mut [u32],
 ) -> u32
     requires { ⌜ AtSeat (now sheet) (now edges) h seat × BothArranged (now sheet) (now edges) h seat (now grantindex) (now banindex) × (length (now list) ≡ maxEdges) ⌝ }
-    ensures { λ r. ⌜ Finds (RedundantAre (now (sheet .entry)) (seat .office)) (now (list .exit)) r ⌝ }
+    ensures { λ r. ⌜ Finds (RedundantEdgesAre (now (sheet .entry)) (seat .office)) (now (list .exit)) r ⌝ }
 {
     let rows = h.edges;
     let mut n: u32 = 0;
@@ -109,9 +109,15 @@ fn prune(
 }
 
 // Question 10 from the seat: the rows that are redundant, rising.
-pub fn redundant_rows(sheet: &[u32], edges: &[u32], h: Header, seat: Seat, list: &mut [u32]) -> u32
+pub fn redundant_edges_at(
+    sheet: &[u32],
+    edges: &[u32],
+    h: Header,
+    seat: Seat,
+    list: &mut [u32],
+) -> u32
     requires { ⌜ AtSeat (now sheet) (now edges) h seat × (length (now list) ≡ maxEdges) ⌝ }
-    ensures { λ r. ⌜ Finds (RedundantAre (now (sheet .entry)) (seat .office)) (now (list .exit)) r ⌝ }
+    ensures { λ r. ⌜ Finds (RedundantEdgesAre (now (sheet .entry)) (seat .office)) (now (list .exit)) r ⌝ }
 {
     let grantindex = walk::arranged(sheet, edges, h, walk::walk_of(seat, GRANT, 0));
     let banindex = walk::arranged(sheet, edges, h, walk::walk_of(seat, BAN, 0));

@@ -15,16 +15,16 @@ use Rattle.tables.proofs.Marks.{within-marked}
 use Rattle.tables.proofs.Tables.{rows-rise, MarkedRow, held-row, row-held}
 use Rattle.sheet.specs.declared.Edge.{Edge}
 use Rattle.sheet.specs.Rows.{headerOf, nodeAt, edgeAt, edgeTable, edgeKey, nodeKeyAt, endsFit}
-use Rattle.sheet.specs.Accepted.{Rising, Accepted}
+use Rattle.sheet.specs.Accepted.{RowsRise, Accepted}
 use Rattle.sheet.specs.Named.{nodeRow, edgeRow, tablesOf, heldAt, seenAt}
 
 -- the key of a relation, from its row
-abbrev relationAt : List ℕ → Edge → Key
-relationAt s e = relation (e .kind) (nodeKeyAt s (e .from)) (nodeKeyAt s (e .to))
+abbrev relationOf : List ℕ → Edge → Key
+relationOf s e = relation (e .kind) (nodeKeyAt s (e .from)) (nodeKeyAt s (e .to))
 
 -- edge rows that rise by row numbers rise by what they name, since node rows rise
-pub lower-named : (s : List ℕ) (n : ℕ) → Rising (nodeKeyAt s) n → (e d : Edge) → e .from < n → d .from < n → e .to < n → d .to < n
-    → belowKey (edgeKey e) (edgeKey d) ≡ true → belowKey (relationAt s e) (relationAt s d) ≡ true
+pub lower-named : (s : List ℕ) (n : ℕ) → RowsRise (nodeKeyAt s) n → (e d : Edge) → e .from < n → d .from < n → e .to < n → d .to < n
+    → belowKey (edgeKey e) (edgeKey d) ≡ true → belowKey (relationOf s e) (relationOf s d) ≡ true
 lower-named s n up e d ef df et dt l = behind _ _ _ _ (kinds (ahead _ _ _ _ l))
   where
     tos : Ahead (e .to) (d .to) [] [] → belowKey (nodeKeyAt s (e .to)) (nodeKeyAt s (d .to)) ≡ true
@@ -41,11 +41,11 @@ lower-named s n up e d ef df et dt l = behind _ _ _ _ (kinds (ahead _ _ _ _ l))
     kinds (rest q m) = rest q (froms (ahead _ _ _ _ m))
 
 module _ (s : List ℕ) (w : Accepted s) where
-  pub nodes-up : Rising (λ i. nodeRow s i .key) (headerOf s .nodes)
+  pub nodes-up : RowsRise (λ i. nodeRow s i .key) (headerOf s .nodes)
   unfolding nodeRow
   nodes-up = w .nodes .rise
 
-  pub edges-up : Rising (λ j. edgeRow s (edgeTable s) j .key) (headerOf s .edges)
+  pub edges-up : RowsRise (λ j. edgeRow s (edgeTable s) j .key) (headerOf s .edges)
   unfolding edgeRow
   edges-up j h =
       let a = w .edges .shaped j (omega arith) in

@@ -23,19 +23,19 @@ one-less : (k : ℕ) → suc k - 1 ≡ k
 one-less k = omega arith
 
 -- so many divisions are enough
-spells : (f k n : ℕ) → k ≤ f → Fewest 10 1 n (suc k) → digits 10 (suc k) n ≡ digitsBy f n
+digits-spelled : (f k n : ℕ) → k ≤ f → Fewest 10 1 n (suc k) → digits 10 (suc k) n ≡ digitsBy f n
 unfolding digitsBy
-spells zero zero n h w = last-digit n []
-spells zero (suc k) n h w = absurd (omega (arith, h))
-spells (suc f) zero n h w = last-digit n [] ∙ ap (λ (b : Bool). cond b [] (digitsBy f (n / 10)) ++ ((48 + n % 10) ∷ [])) (sym (lt-ltb n 10 (w .1)))
-spells (suc f) (suc k) n h w =
+digits-spelled zero zero n h w = last-digit n []
+digits-spelled zero (suc k) n h w = absurd (omega (arith, h))
+digits-spelled (suc f) zero n h w = last-digit n [] ∙ ap (λ (b : Bool). cond b [] (digitsBy f (n / 10)) ++ ((48 + n % 10) ∷ [])) (sym (lt-ltb n 10 (w .1)))
+digits-spelled (suc f) (suc k) n h w =
     let p = pow-succ' 10 (suc k) in
     let q = pow-succ' 10 k in
     let g : 10 ^ suc k ≤ n = subst (λ (i : ℕ). 10 ^ i ≤ n) (one-less (suc k)) (w .2 (omega arith)) in
     let o : 1 ≤ 10 ^ k = one-le-pow k 10 (omega arith) in
     let b : ltb n 10 ≡ false = le-ltb n 10 (omega arith) in
     let m : 10 ^ k ≤ n / 10 = omega arith in
-    let t : digits 10 (suc k) (n / 10) ≡ digitsBy f (n / 10) = spells f k (n / 10) (omega (arith, h)) (omega arith, omega (arith, w .1), λ _. subst (λ (i : ℕ). 10 ^ i ≤ n / 10) (sym (one-less k)) m) in
+    let t : digits 10 (suc k) (n / 10) ≡ digitsBy f (n / 10) = digits-spelled f k (n / 10) (omega (arith, h)) (omega arith, omega (arith, w .1), λ _. subst (λ (i : ℕ). 10 ^ i ≤ n / 10) (sym (one-less k)) m) in
     last-digit n (digits 10 (suc k) (n / 10)) ∙ ap (λ (l : List ℕ). l ++ ((48 + n % 10) ∷ [])) (t ∙ ap (λ (x : Bool). cond x [] (digitsBy f (n / 10))) (sym b))
 
 -- a number is not below the count of its tens
@@ -46,8 +46,8 @@ tens (suc k) = let h = tens k in let p = pow-succ' 10 k in omega arith
 pub decimal-is : (n k : ℕ) → Fewest 10 1 n k → digits 10 k n ≡ decimal n
 unfolding decimal
 decimal-is n zero w = absurd (omega (arith, w .0))
-decimal-is n (suc zero) w = spells n zero n (omega arith) w
-decimal-is n (suc (suc k)) w = let g : 10 ^ suc k ≤ n = subst (λ (i : ℕ). 10 ^ i ≤ n) (one-less (suc k)) (w .2 (omega arith)) in spells n (suc k) n (omega (arith, tens (suc k))) w
+decimal-is n (suc zero) w = digits-spelled n zero n (omega arith) w
+decimal-is n (suc (suc k)) w = let g : 10 ^ suc k ≤ n = subst (λ (i : ℕ). 10 ^ i ≤ n) (one-less (suc k)) (w .2 (omega arith)) in digits-spelled n (suc k) n (omega (arith, tens (suc k))) w
 
 pub ten-digits : (n k : ℕ) → n < 2 ^ 32 → Fewest 10 1 n k → k ≤ 10
 ten-digits n k h w = go (decLt 10 k)

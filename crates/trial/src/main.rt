@@ -41,7 +41,7 @@ struct Reply {
 }
 
 // The reply of an operation that tells a refusal's number and place alone.
-fn told(r: Refusal) -> Reply {
+fn reply_of_refusal(r: Refusal) -> Reply {
     Reply {
         number: r.number,
         sheet: r.sheet,
@@ -107,8 +107,8 @@ fn ask_words(q: Request, sheet: &[u32], list: &[u32], out: &mut [u32]) -> Answer
 // Question 1, 2 or 3 as a case.
 fn which_of(number: u32) -> Which {
     match number {
-        1 => Which::AtOffice,
-        2 => Which::Joint,
+        1 => Which::AnswerAtOffice,
+        2 => Which::JointAnswer,
         _ => Which::Witness,
     }
 }
@@ -246,12 +246,12 @@ fn answer<'a>(
         return replied(ask_file(q, file, out));
     }
     match operation {
-        0 => told(verdict::check(first)),
+        0 => reply_of_refusal(verdict::check(first)),
         14 => opened_words(1, q, first, out),
         15 => opened_words(2, q, first, out),
         16 => opened_words(3, q, first, out),
-        20 => told(files::check_bytes(file)),
-        _ => told(Refusal {
+        20 => reply_of_refusal(files::check_bytes(file)),
+        _ => reply_of_refusal(Refusal {
             number: 4294967295,
             sheet: 0,
             row: 0,

@@ -6,7 +6,7 @@ use borrow.Author.Needs.{needs}
 use Rattle.ask.proofs.Deciding.{reach-says}
 use Rattle.sheet.proofs.Forming.{nodes-same}
 use Rattle.question.specs.Asked.{sideOf}
-use Rattle.paths.specs.Steps.{Layers}
+use Rattle.paths.specs.Reached.{Layers}
 use Rattle.walk.specs.Arcs.{Steps, reversed}
 use Rattle.walk.specs.declared.Walk.{Walk}
 use Rattle.ask.proofs.has_path.Statement.{statement}

@@ -8,15 +8,15 @@ use lib.ListN.{length, getD, set, take, drop, length-set}
 use lib.Seq.{sets}
 use borrow.Author.Needs.{needs}
 use Rattle.ask.proofs.Showing.{first-long, first-next, two-stores}
-use Rattle.ask.specs.Written.{nodeWords}
-use Rattle.sheet.proofs.Writing.{front, front-run, front-done}
+use Rattle.ask.specs.PathRows.{spelledRows}
+use Rattle.sheet.proofs.Writing.{frontOf, front-run, front-done}
 use Rattle.sheet.specs.Rows.{nodeAt}
 use Rattle.sheet.specs.declared.Node.{Node}
 use Rattle.ask.proofs.write_nodes.Statement.{statement}
 use Rattle.ask.proofs.write_nodes.Tie as tie
 
 abbrev Inv-loop : tie.InvT-loop
-Inv-loop sheet n out₀ rows i₀ out i = (i ≤ n) × (length out ≡ length out₀) × (out ≡ front out₀ (nodeWords sheet (take n rows)) (2 * i))
+Inv-loop sheet n out₀ rows i₀ out i = (i ≤ n) × (length out ≡ length out₀) × (out ≡ frontOf out₀ (spelledRows sheet (take n rows)) (2 * i))
 
 abbrev μ-loop : tie.MeasureT-loop
 μ-loop sheet n out₀ rows i₀ out i = n - i
@@ -72,7 +72,7 @@ loop-again c = let L = c .before .before .loop in
     let s = S .args .sheet .now in
     let n = S .args .n in
     let rows = S .args .t3 in
-    let ws = nodeWords s (take n rows) in
+    let ws = spelledRows s (take n rows) in
     let long = first-long s rows n (S .pre .2) in
     let r = nodeAt s (getD rows (L .i) 0) in
     let again : 2 * L .i + 2 ≡ 2 * (L .i + 1) = omega arith in
@@ -83,7 +83,7 @@ loop-again c = let L = c .before .before .loop in
       two-stores (L .out) (2 * L .i) (c .node-at .result .number) (c .node-at .result .variant)
           ∙ ap (λ (x : Node). sets (L .out) (2 * L .i) (x .number ∷ x .variant ∷ [])) (c .node-at .ensures)
           ∙ front-run (L .out) (S .args .out .now) ws (2 * L .i) (L .inv .2) (r .number ∷ r .variant ∷ []) (omega arith) (omega arith) (first-next s rows n (L .i) (S .pre .2) (c .before .loop-test .taken))
-          ∙ ap (front (S .args .out .now) ws) again,
+          ∙ ap (frontOf (S .args .out .now) ws) again,
     )
 
 same-length : tie.Need-same-length Inv-loop μ-loop
@@ -92,7 +92,7 @@ same-length c = c .before .loop .inv .1
 returns : tie.Need-returns Inv-loop μ-loop
 returns c = let L = c .before .loop in
     let S = c .before .before .before .before in
-    let ws = nodeWords (S .args .sheet .now) (take (S .args .n) (S .args .t3)) in
+    let ws = spelledRows (S .args .sheet .now) (take (S .args .n) (S .args .t3)) in
     let long : length ws ≡ 2 * S .args .n = first-long (S .args .sheet .now) (S .args .t3) (S .args .n) (S .pre .2) in
     front-done (L .out) (S .args .out .now) ws (2 * L .i) (L .inv .2) (omega arith) (omega arith) ∙ ap (λ (m : ℕ). ws ++ drop m (S .args .out .now)) long
 

@@ -5,7 +5,7 @@ use Rattle.tables.specs.Key.{belowKey}
 use Rattle.sheet.specs.declared.Node.{Node}
 use Rattle.sheet.specs.Rows.{nodeKey}
 use Rattle.combine.specs.declared.Part.{Part}
-use Rattle.combine.specs.Parts.{rowAt}
+use Rattle.combine.specs.SheetTables.{rowAt}
 use Rattle.combine.proofs.Reading.{part-room, part-edges, nodes-below}
 use borrow.Author.Needs.{needs}
 use Rattle.combine.proofs.below_at.Statement.{statement}

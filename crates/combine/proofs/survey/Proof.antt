@@ -5,7 +5,7 @@ use mathlib.Core.Path.{_≡_, refl, ap, ap₂, _∙_}
 use native.Mathlib.Omega.{arith}
 use borrow.Author.Needs.{needs}
 use lib.ListN.{length}
-use Rattle.combine.specs.Parts.{countIn}
+use Rattle.combine.specs.SheetTables.{countIn}
 use Rattle.combine.proofs.Reading.{few}
 use Rattle.combine.proofs.Walking.{Surveying, surveying-none, surveying-on, surveyed, left, small}
 use Rattle.combine.proofs.survey.Statement.{statement}

@@ -2,7 +2,7 @@
 -- Assumes nothing.
 use mathlib.Core.Path.{ap, _∙_}
 use Rattle.sheet.specs.declared.Edge.{Edge}
-use Rattle.combine.specs.Parts.{spelled}
+use Rattle.combine.specs.SheetTables.{spelled}
 use Rattle.combine.proofs.Reading.{taken-first, taken-second}
 use borrow.Author.Needs.{needs}
 use Rattle.combine.proofs.taken.Statement.{statement}

@@ -2,7 +2,7 @@
 -- Assumes nothing.
 use mathlib.Core.Path.{sym, ap, _∙_}
 use Rattle.combine.specs.declared.Part.{Part}
-use Rattle.combine.specs.Parts.{wordsAt}
+use Rattle.combine.specs.SheetTables.{wordsAt}
 use Rattle.combine.proofs.Reading.{part-room, part-edges, words-node}
 use borrow.Author.Needs.{needs}
 use Rattle.combine.proofs.words_at.Statement.{statement}

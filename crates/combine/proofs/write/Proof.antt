@@ -5,9 +5,9 @@ use mathlib.Core.Path.{_≡_, refl, ap, ap₂, _∙_}
 use native.Mathlib.Omega.{arith}
 use borrow.Author.Needs.{needs}
 use lib.ListN.{length}
-use Rattle.combine.specs.Parts.{countIn}
+use Rattle.combine.specs.SheetTables.{countIn}
 use Rattle.combine.proofs.Reading.{few, moves-inside}
-use Rattle.combine.proofs.Walking.{Writing, writing-none, writing-on, written, left, small, room}
+use Rattle.combine.proofs.Walking.{Writing, writing-none, writing-on, all-written, left, small, room}
 use Rattle.combine.proofs.write.Statement.{statement}
 use Rattle.combine.proofs.write.Tie as tie
 
@@ -72,7 +72,7 @@ same-length c = c .before .loop .inv .2
 returns : tie.Need-returns Inv-loop μ-loop
 returns c = let S = c .before .before .before .before .before .before .before .before .before in
     let L = c .before .loop in
-    written _ (S .args .part) _ _ _ _ (S .pre .0) _ _ _ _ _ _ _ (L .inv .0) (omega (arith, L .inv .1, c .loop-test .left))
+    all-written _ (S .args .part) _ _ _ _ (S .pre .0) _ _ _ _ _ _ _ (L .inv .0) (omega (arith, L .inv .1, c .loop-test .left))
 
 pub write-spec : {M : Type 1} → statement M
 write-spec =

@@ -6,7 +6,7 @@ use borrow.Author.Needs.{needs}
 use Rattle.sheet.specs.Rows.{headerOf}
 use Rattle.question.specs.Asked.{jointFault}
 use Rattle.question.specs.Replies.{Replies}
-use Rattle.meaning.specs.Answers.{JointIs}
+use Rattle.meaning.specs.Answers.{JointAnswerIs}
 use Rattle.sheet.specs.declared.Refusal.{Refusal}
 use Rattle.sheet.specs.Named.{seenAt}
 use Rattle.counter.specs.Filed.{asking}
@@ -42,7 +42,7 @@ returns-2 : tie.Need-returns-2
 returns-2 c = let A = c .before .before .before .before .before .before .before .before .before .args in
     of-file _ _ _ (c .before .before .before .before .before .before .read .ensures)
     (λ (s : List ℕ). jointFault s (asking 0 (A .rule) 0 (A .person) (A .deed) (A .folio)))
-    (λ (v : Refusal) (s : List ℕ). Replies v (λ value count. JointIs (seenAt s) (headerOf s .offices) (A .rule) (A .person) (A .deed) (A .folio) (record { answer = value; office = count })) (c .joint-answer .result))
+    (λ (v : Refusal) (s : List ℕ). Replies v (λ value count. JointAnswerIs (seenAt s) (headerOf s .offices) (A .rule) (A .person) (A .deed) (A .folio) (record { answer = value; office = count })) (c .joint-answer .result))
     (c .before .before .before .if1 .left) (c .joint-answer .ensures)
 
 pub tormukai-joint-answer-spec : {M : Type 1} → statement M

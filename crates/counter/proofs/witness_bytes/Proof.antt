@@ -3,7 +3,7 @@
 use native.Mathlib.Omega.{arith}
 use borrow.Author.Needs.{needs}
 use Rattle.counter.proofs.Longest.{witness-fits}
-use Rattle.counter.proofs.Handing.{still-refused, found, bytes-short, bytes-written}
+use Rattle.counter.proofs.Handing.{still-refused, words-in-front, bytes-short, bytes-written}
 use Rattle.counter.proofs.witness_bytes.Statement.{statement}
 use Rattle.counter.proofs.witness_bytes.Tie as tie
 
@@ -27,7 +27,7 @@ part-encode-start c = search needs
 
 part-encode-end : tie.Need-part-encode-end
 part-encode-end c = let W = c .before .before .before .before .before .witness in
-    let most = found _ _ _ _ _ (W .ensures) (c .before .before .if1 .left) .fits in
+    let most = words-in-front _ _ _ _ _ (W .ensures) (c .before .before .if1 .left) .fits in
     omega (arith, W .kept .1 .1 .0)
 
 encode-requires : tie.Need-encode-requires
@@ -41,11 +41,11 @@ same-length c = search needs
 
 returns-2 : tie.Need-returns-2
 returns-2 c = let B = c .before .before .before .before .before .before .before .before .before .before in
-    bytes-short _ _ _ _ _ (found _ _ _ _ _ (B .before .before .before .witness .ensures) (B .if1 .left)) _ _ _ (c .before .before .before .before .before .encode .ensures) _ (c .before .if2 .taken) (c .refused .ensures)
+    bytes-short _ _ _ _ _ (words-in-front _ _ _ _ _ (B .before .before .before .witness .ensures) (B .if1 .left)) _ _ _ (c .before .before .before .before .before .encode .ensures) _ (c .before .if2 .taken) (c .refused .ensures)
 
 mul-told : tie.Need-mul-told
 mul-told c = let B = c .before .before .before .before .before .before .before .before .before .before in
-    let most = found _ _ _ _ _ (B .before .before .before .witness .ensures) (B .if1 .left) .fits in
+    let most = words-in-front _ _ _ _ _ (B .before .before .before .witness .ensures) (B .if1 .left) .fits in
     omega arith
 
 told-requires : tie.Need-told-requires
@@ -56,7 +56,7 @@ same-length-2 c = search needs
 
 returns-3 : tie.Need-returns-3
 returns-3 c = let B = c .before .before .before .before .before .before .before .before .before .before .before in
-    bytes-written _ _ _ _ _ (found _ _ _ _ _ (B .before .before .before .witness .ensures) (B .if1 .left)) _ _ _ (c .before .before .before .before .before .before .encode .ensures) _ (c .before .before .if2 .left) (c .told .ensures)
+    bytes-written _ _ _ _ _ (words-in-front _ _ _ _ _ (B .before .before .before .witness .ensures) (B .if1 .left)) _ _ _ (c .before .before .before .before .before .before .encode .ensures) _ (c .before .before .if2 .left) (c .told .ensures)
 
 pub witness-bytes-spec : {M : Type 1} → statement M
 witness-bytes-spec =

@@ -8,12 +8,12 @@ use lib.ListN.{length, length-set}
 use borrow.Author.Needs.{needs}
 use Rattle.files.proofs.Words.{words-long, word-next}
 use Rattle.files.specs.Bytes.{wordsOf}
-use Rattle.sheet.proofs.Writing.{front, front-run, front-done}
+use Rattle.sheet.proofs.Writing.{frontOf, front-run, front-done}
 use Rattle.files.proofs.decode_all.Statement.{statement}
 use Rattle.files.proofs.decode_all.Tie as tie
 
 abbrev Inv-loop : tie.InvT-loop
-Inv-loop bytes words₀ n i₀ words i = (i ≤ n) × (length words ≡ length words₀) × (words ≡ front words₀ (wordsOf bytes) i)
+Inv-loop bytes words₀ n i₀ words i = (i ≤ n) × (length words ≡ length words₀) × (words ≡ frontOf words₀ (wordsOf bytes) i)
 
 abbrev μ-loop : tie.MeasureT-loop
 μ-loop bytes words₀ n i₀ words i = n - i

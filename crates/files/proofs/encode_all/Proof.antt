@@ -7,12 +7,12 @@ use lib.ListN.{length, getD}
 use borrow.Author.Needs.{needs}
 use Rattle.files.proofs.Words.{bytes-long, bytes-next}
 use Rattle.files.specs.Bytes.{bytesOf, bytesOfWord}
-use Rattle.sheet.proofs.Writing.{front, front-run, front-done}
+use Rattle.sheet.proofs.Writing.{frontOf, front-run, front-done}
 use Rattle.files.proofs.encode_all.Statement.{statement}
 use Rattle.files.proofs.encode_all.Tie as tie
 
 abbrev Inv-loop : tie.InvT-loop
-Inv-loop words bytes₀ n i₀ bytes i = (i ≤ n) × (length bytes ≡ length bytes₀) × (bytes ≡ front bytes₀ (bytesOf words) (4 * i))
+Inv-loop words bytes₀ n i₀ bytes i = (i ≤ n) × (length bytes ≡ length bytes₀) × (bytes ≡ frontOf bytes₀ (bytesOf words) (4 * i))
 
 abbrev μ-loop : tie.MeasureT-loop
 μ-loop words bytes₀ n i₀ bytes i = n - i
@@ -49,7 +49,7 @@ loop-again c = let L = c .before .before .before .before .before .before .loop i
       P .kept .0 ∙ L .inv .1,
       P .ensures
           ∙ front-run (L .bytes) (S .args .bytes .now) (bytesOf ws) (4 * L .i) (L .inv .2) (bytesOfWord (getD ws (L .i) 0)) (omega arith) (omega arith) (bytes-next ws (L .i) (c .before .before .before .before .before .loop-test .taken))
-          ∙ ap (front (S .args .bytes .now) (bytesOf ws)) again,
+          ∙ ap (frontOf (S .args .bytes .now) (bytesOf ws)) again,
     )
 
 same-length : tie.Need-same-length Inv-loop μ-loop

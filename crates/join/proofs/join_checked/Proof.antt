@@ -1,7 +1,7 @@
 -- `join::join_checked` meets its contract: the counts measured are the union's, and what is laid is the join.
 -- Assumes nothing.
 use mathlib.Core.Path.{sym, ap, _∙_}
-use Rattle.join.specs.Joined.{refusedBy}
+use Rattle.join.specs.Joins.{refusedJoin}
 use Rattle.join.proofs.Refusing.{joins-refused, too-much-is, within-limits}
 use Rattle.join.proofs.Joining.{pair, few, limits, nodes-union, edges-union, joined-laid}
 use borrow.Author.Needs.{needs}
@@ -17,21 +17,21 @@ too-much-requires c κs = search needs
 about-requires : tie.Need-about-requires
 about-requires c κs = search needs
 
-refused-requires : tie.Need-refused-requires
-refused-requires c κs = search needs
+refused-join-requires : tie.Need-refused-join-requires
+refused-join-requires c κs = search needs
 
 returns : tie.Need-returns
 returns c = let P = c .before .before .before .before .before .before .before .before .pre in
     let M = c .before .before .before .before .measure-of .ensures in
-    joins-refused _ _ _ _ _ _ _ (too-much-is _ _ _ _ _ _ (c .before .before .before .too-much .ensures) (nodes-union _ _ (P .0) _ _ (P .1) _ M) (edges-union _ _ (P .0) _ _ (P .1) _ M) (c .before .before .if1 .taken)) (c .before .before .if1 .taken) (c .refused .ensures ∙ ap refusedBy (c .before .about .ensures))
+    joins-refused _ _ _ _ _ _ _ (too-much-is _ _ _ _ _ _ (c .before .before .before .too-much .ensures) (nodes-union _ _ (P .0) _ _ (P .1) _ M) (edges-union _ _ (P .0) _ _ (P .1) _ M) (c .before .before .if1 .taken)) (c .before .before .if1 .taken) (c .refused-join .ensures ∙ ap refusedJoin (c .before .about .ensures))
 
 lay-requires : tie.Need-lay-requires
 lay-requires c κs = let P = c .before .before .before .before .before .before .before .pre in
     let l = within-limits _ _ _ (sym (c .before .if1 .left) ∙ c .before .before .too-much .ensures) in
     (pair _ _ (P .0) _ _ (P .1), c .before .before .before .measure-of .ensures, l .0, l .1, l .2)
 
-told-requires : tie.Need-told-requires
-told-requires c κs = let P = c .before .before .before .before .before .before .before .before .before .before .pre in
+made-join-requires : tie.Need-made-join-requires
+made-join-requires c κs = let P = c .before .before .before .before .before .before .before .before .before .before .pre in
     let l = within-limits _ _ _ (sym (c .before .before .before .before .if1 .left) ∙ c .before .before .before .before .before .too-much .ensures) in
     let f = few _ _ (P .0) _ _ (P .1) _ (c .before .before .before .before .before .before .measure-of .ensures) in
     let x = limits _ _ (P .0) in
@@ -43,7 +43,7 @@ same-length c = search needs
 
 returns-2 : tie.Need-returns-2
 returns-2 c = let P = c .before .before .before .before .before .before .before .before .before .before .before .pre in
-    joined-laid _ _ (P .0) _ _ (P .1) _ (c .before .before .before .before .before .before .before .measure-of .ensures) _ _ (sym (c .before .before .before .before .before .if1 .left) ∙ c .before .before .before .before .before .before .too-much .ensures) (c .before .before .before .lay .ensures) _ (c .told .ensures)
+    joined-laid _ _ (P .0) _ _ (P .1) _ (c .before .before .before .before .before .before .before .measure-of .ensures) _ _ (sym (c .before .before .before .before .before .if1 .left) ∙ c .before .before .before .before .before .before .too-much .ensures) (c .before .before .before .lay .ensures) _ (c .made-join .ensures)
 
 pub join-checked-spec : {M : Type 1} → statement M
 join-checked-spec =
@@ -52,9 +52,9 @@ join-checked-spec =
     measure-of-requires
     too-much-requires
     about-requires
-    refused-requires
+    refused-join-requires
     returns
     lay-requires
-    told-requires
+    made-join-requires
     same-length
     returns-2)

@@ -1,29 +1,29 @@
 -- `join_files::join_files` meets its contract: the first file's refusal, the second's, and past both the join of their words.
 -- Assumes nothing.
 use borrow.Author.Needs.{needs}
-use Rattle.join_files.proofs.Joining.{first-refused, second-refused, files-joined, file-fits}
+use Rattle.join_files.proofs.Joining.{first-file-refused, second-refused, files-joined, file-fits}
 use Rattle.join_files.proofs.join_files.Statement.{statement}
 use Rattle.join_files.proofs.join_files.Tie as tie
 
 check-bytes-as-requires : tie.Need-check-bytes-as-requires
 check-bytes-as-requires c κs = search needs
 
-refused-requires : tie.Need-refused-requires
-refused-requires c κs = search needs
+refused-join-requires : tie.Need-refused-join-requires
+refused-join-requires c κs = search needs
 
 returns : tie.Need-returns
 returns c = let S = c .before .before .before .before .before .before .before in
-    first-refused (S .args .first .now) (S .args .second .now) (S .args .out .now) _ (c .before .before .before .check-bytes-as .ensures) _ (c .refused .ensures) (c .before .if1 .taken)
+    first-file-refused (S .args .first .now) (S .args .second .now) (S .args .out .now) _ (c .before .before .before .check-bytes-as .ensures) _ (c .refused-join .ensures) (c .before .if1 .taken)
 
 check-bytes-as-requires-2 : tie.Need-check-bytes-as-requires-2
 check-bytes-as-requires-2 c κs = search needs
 
-refused-requires-2 : tie.Need-refused-requires-2
-refused-requires-2 c κs = search needs
+refused-join-requires-2 : tie.Need-refused-join-requires-2
+refused-join-requires-2 c κs = search needs
 
 returns-2 : tie.Need-returns-2
 returns-2 c = let S = c .before .before .before .before .before .before .before .before .before .before in
-    second-refused (S .args .first .now) (S .args .second .now) (S .args .out .now) _ (c .before .before .before .before .before .before .check-bytes-as .ensures) (c .before .before .before .before .if1 .left) _ (c .before .before .before .check-bytes-as2 .ensures) _ (c .refused2 .ensures) (c .before .if2 .taken)
+    second-refused (S .args .first .now) (S .args .second .now) (S .args .out .now) _ (c .before .before .before .before .before .before .check-bytes-as .ensures) (c .before .before .before .before .if1 .left) _ (c .before .before .before .check-bytes-as2 .ensures) _ (c .refused-join2 .ensures) (c .before .if2 .taken)
 
 join-decoded-requires : tie.Need-join-decoded-requires
 join-decoded-requires c κs = let S = c .before .before .before .before .before .before .before .before .before .before in
@@ -41,10 +41,10 @@ join-files-spec =
     tie.close
     (tie.spec
     check-bytes-as-requires
-    refused-requires
+    refused-join-requires
     returns
     check-bytes-as-requires-2
-    refused-requires-2
+    refused-join-requires-2
     returns-2
     join-decoded-requires
     same-length

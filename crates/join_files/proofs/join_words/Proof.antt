@@ -32,15 +32,15 @@ part-encode-end c = let S = c .before .before .before .before .before .before .b
 encode-requires : tie.Need-encode-requires
 encode-requires c κs = search needs
 
-refused-requires : tie.Need-refused-requires
-refused-requires c κs = search needs
+refused-join-requires : tie.Need-refused-join-requires
+refused-join-requires c κs = search needs
 
 same-length : tie.Need-same-length
 same-length c = search needs
 
 returns-2 : tie.Need-returns-2
 returns-2 c = let S = c .before .before .before .before .before .before .before .before .before .before .before .before .before .before .before .before .before .before in
-    bytes-short (S .args .first .now) (S .args .second .now) _ _ _ refl (c .before .before .before .before .before .before .before .before .before .before .before .before .before .join .ensures) (c .before .before .before .before .before .before .before .before .before .before .if1 .left) (S .args .out .now) _ _ (c .before .before .before .before .before .encode .ensures) _ (c .refused .ensures) (c .before .if2 .taken)
+    bytes-short (S .args .first .now) (S .args .second .now) _ _ _ refl (c .before .before .before .before .before .before .before .before .before .before .before .before .before .join .ensures) (c .before .before .before .before .before .before .before .before .before .before .if1 .left) (S .args .out .now) _ _ (c .before .before .before .before .before .encode .ensures) _ (c .refused-join .ensures) (c .before .if2 .taken)
 
 same-length-2 : tie.Need-same-length-2
 same-length-2 c = search needs
@@ -61,7 +61,7 @@ join-words-spec =
     part-encode-start
     part-encode-end
     encode-requires
-    refused-requires
+    refused-join-requires
     same-length
     returns-2
     same-length-2

@@ -1,7 +1,7 @@
 -- `lists::copy` meets its contract. The loop's invariant: the first i words are copied, and behind them stands what stood there.
 -- Assumes nothing.
 use Rattle.reach.proofs.Collecting.{one-next}
-use Rattle.sheet.proofs.Writing.{front, front-run}
+use Rattle.sheet.proofs.Writing.{frontOf, front-run}
 use borrow.Author.Needs.{needs}
 use lib.ListN.{length, getD, length-set}
 use native.Mathlib.Omega.{arith}
@@ -12,7 +12,7 @@ use Rattle.lists.proofs.copy.Statement.{statement}
 use Rattle.lists.proofs.copy.Tie as tie
 
 abbrev Inv-loop : tie.InvT-loop
-Inv-loop list n out₀ i₀ out i = (i ≤ n) × (length out ≡ length out₀) × (out ≡ front out₀ list i)
+Inv-loop list n out₀ i₀ out i = (i ≤ n) × (length out ≡ length out₀) × (out ≡ frontOf out₀ list i)
 
 abbrev μ-loop : tie.MeasureT-loop
 μ-loop list n out₀ i₀ out i = n - i
@@ -56,7 +56,7 @@ returns c =
     let L = c .before .loop in
     let S = c .before .before in
     let e : L .i ≡ S .args .n = omega (arith, L .inv .0, c .loop-test .left) in
-    subst (λ (x : ℕ). L .out ≡ front (S .args .out .now) (S .args .list .now) x) e (L .inv .2)
+    subst (λ (x : ℕ). L .out ≡ frontOf (S .args .out .now) (S .args .list .now) x) e (L .inv .2)
 
 pub copy-spec : {M : Type 1} → statement M
 copy-spec =

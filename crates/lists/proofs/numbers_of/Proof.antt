@@ -4,7 +4,7 @@ use Rattle.lists.proofs.Picking.{picked-yes, picked-no, picked-all}
 use Rattle.reach.proofs.Rows.{numbers-rise}
 use Rattle.reach.proofs.Collecting.{Collected, collected-none, collected-puts, puts-more, puts-long}
 use Rattle.lists.specs.Picked.{Picked}
-use Rattle.reach.specs.Found.{some}
+use Rattle.reach.specs.Finds.{some}
 use Rattle.sheet.specs.declared.Node.{Node}
 use Rattle.sheet.specs.Rows.{nodeAt}
 use borrow.Author.Needs.{needs}

@@ -2,6 +2,7 @@
 -- Assumes nothing.
 use Rattle.lists.proofs.Persons.{tells-more}
 use Rattle.reach.specs.Reaching.{Tells, LeadsTo}
+use Rattle.sheet.specs.Kinds.{personType}
 use Rattle.sheet.specs.Rows.{nodeAt}
 use Rattle.sheet.specs.Limits.{maxNodes}
 use borrow.Author.Needs.{needs}
@@ -13,7 +14,7 @@ use Rattle.lists.proofs.persons_reaching.Statement.{statement}
 use Rattle.lists.proofs.persons_reaching.Tie as tie
 
 abbrev Inv-loop : tie.InvT-loop
-Inv-loop sheet edges h w index to m₀ n i₀ m i = (i ≤ n) × (length m ≡ maxNodes) × ((j : ℕ) → j < i → nodeAt sheet j .class ≡ 1 → Tells (getD m j 0) (LeadsTo sheet edges h w j to))
+Inv-loop sheet edges h w index to m₀ n i₀ m i = (i ≤ n) × (length m ≡ maxNodes) × ((j : ℕ) → j < i → nodeAt sheet j .class ≡ personType → Tells (getD m j 0) (LeadsTo sheet edges h w j to))
 
 abbrev μ-loop : tie.MeasureT-loop
 μ-loop sheet edges h w index to m₀ n i₀ m i = n - i
@@ -47,7 +48,7 @@ loop-again c =
     let S = c .before .before .before .before .before .before in (
       omega arith,
       length-set {A = ℕ} (L .m) (L .i) (c .person-reaches .result) ∙ L .inv .1,
-      tells-more (λ j. LeadsTo (S .args .sheet .now) (S .args .edges .now) (S .args .h) (S .args .w) j (S .args .to)) (λ j. nodeAt (S .args .sheet .now) j .class ≡ 1) (L .m) (L .i) (c .person-reaches .result) (omega (arith, L .inv .1, c .before .loop-test .taken, S .pre .0 .nodes .header .nodes)) (L .inv .2) (c .person-reaches .ensures),
+      tells-more (λ j. LeadsTo (S .args .sheet .now) (S .args .edges .now) (S .args .h) (S .args .w) j (S .args .to)) (λ j. nodeAt (S .args .sheet .now) j .class ≡ personType) (L .m) (L .i) (c .person-reaches .result) (omega (arith, L .inv .1, c .before .loop-test .taken, S .pre .0 .nodes .header .nodes)) (L .inv .2) (c .person-reaches .ensures),
     )
 
 returns : tie.Need-returns Inv-loop μ-loop

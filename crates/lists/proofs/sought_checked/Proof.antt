@@ -1,6 +1,6 @@
 -- `lists::sought_checked` meets its contract: the office's number, then what the question refuses, then what it finds.
 -- Assumes nothing.
-use Rattle.lists.proofs.Picking.{fault-office}
+use Rattle.lists.proofs.Picking.{sought-office}
 use Rattle.question.proofs.Telling.{show-refused, show-stands, fits-office}
 use mathlib.Core.Path.{refl, sym, _∙_}
 use native.Mathlib.Omega.{arith}
@@ -15,7 +15,7 @@ refused-by-requires : tie.Need-refused-by-requires
 refused-by-requires c κs = search needs
 
 returns : tie.Need-returns
-returns c = show-refused _ _ _ _ _ _ (fault-office _ _ _ _ _ (c .before .before .before .before .before .before .pre .head) (c .before .before .bad-office .ensures) (c .before .if1 .taken)) (c .before .if1 .taken) (c .refused-by .ensures) refl
+returns c = show-refused _ _ _ _ _ _ (sought-office _ _ _ _ _ (c .before .before .before .before .before .before .pre .head) (c .before .before .bad-office .ensures) (c .before .if1 .taken)) (c .before .if1 .taken) (c .refused-by .ensures) refl
 
 seat-at-requires : tie.Need-seat-at-requires
 seat-at-requires c κs =

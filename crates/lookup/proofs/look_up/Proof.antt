@@ -1,6 +1,6 @@
 -- `lookup::look_up` meets its contract: each part is the empty one, or the four words of a row that has the identity, where they stand.
 -- Assumes nothing.
-use Rattle.lookup.proofs.Looking.{Row, has-none, gives-none, gives-first, gives-second, both-accepted, first-row, second-row}
+use Rattle.lookup.proofs.Looking.{StandingRow, has-none, gives-none, gives-first, gives-second, both-accepted, first-row, second-row}
 use Rattle.sheet.specs.Parts.{lent}
 use Rattle.sheet.specs.Rows.{nodeKey}
 use native.Mathlib.Omega.{arith}
@@ -58,7 +58,7 @@ place-in-requires-2 : tie.Need-place-in-requires-2
 place-in-requires-2 c κs = both-accepted _ _ _ _ (c .before .before .before .before .refusal-of .ensures) (c .before .before .if1 .left) .1
 
 -- the row in the second sheet
-found : (k : tie.After-place-in2) → Row (k .before .before .before .before .before .before .before .before .before .args .second .now) (nodeKey (k .before .before .before .before .before .before .named .result)) (k .place-in2 .result)
+found : (k : tie.After-place-in2) → StandingRow (k .before .before .before .before .before .before .before .before .before .args .second .now) (nodeKey (k .before .before .before .before .before .before .named .result)) (k .place-in2 .result)
 found k = second-row _ _ _ _ (k .before .before .before .before .before .refusal-of .ensures) _ _ (k .before .before .before .if1 .left) (k .before .before .place-in .ensures) (k .before .if2 .left) (k .place-in2 .ensures)
 
 add-f : tie.Need-add-f

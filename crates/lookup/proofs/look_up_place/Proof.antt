@@ -1,6 +1,6 @@
 -- `lookup::look_up_place` meets its contract: what is told is the row that a search found, in the first sheet or else in the second.
 -- Assumes nothing.
-use Rattle.lookup.proofs.Looking.{Row, has-none, both-accepted, first-row, second-row, places-none, places-first, places-second, place-part}
+use Rattle.lookup.proofs.Looking.{StandingRow, has-none, both-accepted, first-row, second-row, places-none, places-first, places-second, place-part}
 use Rattle.sheet.specs.Rows.{nodeKey}
 use native.Mathlib.Omega.{arith}
 use borrow.Author.Needs.{needs}
@@ -23,7 +23,7 @@ place-in-requires : tie.Need-place-in-requires
 place-in-requires c κs = both-accepted _ _ _ _ (c .before .before .refusal-of .ensures) (c .if1 .left) .0
 
 -- the row in the first sheet
-here : (k : tie.Then2) → Row (k .before .before .before .before .before .before .before .before .args .first .now) (nodeKey (k .before .before .before .before .before .named .result)) (k .before .place-in .result)
+here : (k : tie.Then2) → StandingRow (k .before .before .before .before .before .before .before .before .args .first .now) (nodeKey (k .before .before .before .before .before .named .result)) (k .before .place-in .result)
 here k = first-row _ _ _ _ (k .before .before .before .before .refusal-of .ensures) _ (k .before .before .if1 .left) (k .before .place-in .ensures) (k .if2 .taken)
 
 row-from-requires : tie.Need-row-from-requires
@@ -42,7 +42,7 @@ place-in-requires-2 : tie.Need-place-in-requires-2
 place-in-requires-2 c κs = both-accepted _ _ _ _ (c .before .before .before .before .refusal-of .ensures) (c .before .before .if1 .left) .1
 
 -- the row in the second sheet
-there : (k : tie.After-place-in2) → Row (k .before .before .before .before .before .before .before .before .before .args .second .now) (nodeKey (k .before .before .before .before .before .before .named .result)) (k .place-in2 .result)
+there : (k : tie.After-place-in2) → StandingRow (k .before .before .before .before .before .before .before .before .before .args .second .now) (nodeKey (k .before .before .before .before .before .before .named .result)) (k .place-in2 .result)
 there k = second-row _ _ _ _ (k .before .before .before .before .before .refusal-of .ensures) _ _ (k .before .before .before .if1 .left) (k .before .before .place-in .ensures) (k .before .if2 .left) (k .place-in2 .ensures)
 
 row-from-requires-2 : tie.Need-row-from-requires-2

@@ -46,7 +46,7 @@ use Rattle.question.proofs.Question as Q
 use Rattle.question.proofs.Question.Laws as Q′
 use Rattle.question.proofs.Answer as R
 use Rattle.question.proofs.Answer.Laws as R′
-use Rattle.opened.specs.Asking.{questionOf, Answers}
+use Rattle.opened.specs.Asking.{questionOf, Promised}
 use Rattle.opened.specs.declared.Opened.{Opened}
 use Rattle.opened.specs.declared.Which.{Which}
 use Rattle.opened.proofs.Which as E
@@ -100,7 +100,7 @@ module _ {M : Type 1} (𝓤 : URA M) (H : Heap 𝓤) (A : Atoms 𝓤) (W : Given
   Made d = (d .words ≡ r) × (d .nodes ≡ headerOf (now r) .nodes) × (d .edges ≡ headerOf (now r) .edges)
 
   abbrev Right : RefT (List ℕ) → Answer → List ℕ → Type 0
-  Right y n zs = Answers (questionOf w) (now y) p (now x) n zs
+  Right y n zs = Promised (questionOf w) (now y) p (now x) n zs
 
   abbrev more : List Val × (List Val × (List Val × Unit {0}))
   more = (EL.val E.the-type E′.the-laws w ∷ [], (LL.val Q.the-type Q′.the-laws p ∷ [], (s ∷ [], tt)))

@@ -1,4 +1,4 @@
--- `opened::Opened::ask` meets its contract: a walk of its MIR, by hand. `asked` is called on the words, and the caller's slice is lent on.
+-- `opened::Opened::ask` meets its contract: a walk of its MIR, by hand. `ask_words` is called on the words, and the caller's slice is lent on.
 -- Assumes nothing.
 use mathlib.Core.Path.{_≡_, refl}
 use Prim.Native.Nat.{ℕ}
@@ -42,7 +42,7 @@ use denote.Triple.Walked.{says, Stays, stay-none, walkOf, goes-none, Walks, ends
 use denote.Exit.{yes}
 use denote.Triple.Clauses.{ensured, lasts}
 use denote.Signature.Struct.{makes}
-use Rattle.opened.specs.Asking.{questionOf, Answers}
+use Rattle.opened.specs.Asking.{questionOf, Promised}
 use Rattle.opened.specs.declared.Opened.{Opened}
 use Rattle.opened.specs.declared.Which.{Which}
 use Rattle.question.specs.declared.Question.{Question}
@@ -55,10 +55,10 @@ use Rattle.opened.proofs.Which as E
 use Rattle.opened.proofs.Which.Laws as E′
 use Rattle.opened.proofs.Opened as T
 use Rattle.opened.proofs.Opened.Laws as T′
-use Rattle.opened.proofs.asked as callee
-use Rattle.opened.proofs.asked.Symbol as callee-def
-use Rattle.opened.proofs.asked.Symbol.{name as #opened·asked}
-use Rattle.opened.proofs.asked.Met as callee-thm
+use Rattle.opened.proofs.ask_words as callee
+use Rattle.opened.proofs.ask_words.Symbol as callee-def
+use Rattle.opened.proofs.ask_words.Symbol.{name as #opened·ask-words}
+use Rattle.opened.proofs.ask_words.Met as callee-thm
 use Rattle.opened.proofs.Opened.ask.Key.{name as #opened·ask}
 use Rattle.opened.proofs.Opened.ask as ask
 use Rattle.opened.proofs.Opened.ask.Statement as stated
@@ -98,7 +98,7 @@ module _ {M : Type 1} (𝓤 : URA M) (H : Heap 𝓤) (A : Atoms 𝓤) (W : Given
 
   -- what the contract says
   abbrev Right : Answer → List ℕ → Type 0
-  Right n zs = Answers (questionOf w) (now (d .words)) p (now x) n zs
+  Right n zs = Promised (questionOf w) (now (d .words)) p (now x) n zs
 
   abbrev at : Vals ask.signature κs
   at = (mach ∷ [], (EL.val E.the-type E′.the-laws w ∷ [], (LL.val Q.the-type Q′.the-laws p ∷ [], (s ∷ [], tt))))
@@ -138,7 +138,7 @@ module _ {M : Type 1} (𝓤 : URA M) (H : Heap 𝓤) (A : Atoms 𝓤) (W : Given
       suffices ! _ (ends-at 𝓤 H A ask.ended stayed (ask.clauses 𝓤 H A mem run) W ((κs, (q, (q′, tt)), tt, (d, (w, (p, (x, tt)))), at), tt) u n (tt, (tt, (tt, (zs, tt)))) (tt, (tt, (tt, (l, tt))))) $ says ! e $
       move ! (1 ∷ []) $ frame ! $ nothing ! $ move ! (2 ∷ 0 ∷ []) $ fjoin ! $ owned ! Q.the-row (Is Q.the-row) (LL.makes Q.the-type Q′.the-plain 𝓤 H A) p _ okp $ fjoin ! $ owned ! E.the-row (Is E.the-row) (EL.makes E.the-type E′.the-plain 𝓤 H A) w _ okw $ fjoin ! $ move ! (2 ∷ 0 ∷ []) $ fjoin ! $ frame ! $ done !
 
-  module _ (C : Calls 𝓤 H) (Λ : Loops 𝓤 H) (fm : FmC 𝓤 H (W .laws) C) (known : Triple 𝓤 (C #opened·asked) (Callee 𝓤 H A mem run)) where
+  module _ (C : Calls 𝓤 H) (Λ : Loops 𝓤 H) (fm : FmC 𝓤 H (W .laws) C) (known : Triple 𝓤 (C #opened·ask-words) (Callee 𝓤 H A mem run)) where
     walk : Holds (hasTy (T′.mir (named 0)) mach) × WT mach → Is (MutSlice (named 1) κ′ u32) x (s ∷ []) → ent 𝓤 (onEntry 𝓤 H A ask.signature κs (q, (q′, tt)) (d, (w, (p, (x, tt)))) at) (WpFn 𝓤 H C Λ code.function (mach ∷ EL.val E.the-type E′.the-laws w ∷ LL.val Q.the-type Q′.the-laws p ∷ s ∷ []) Post)
     walk wt isx =
         qed W (raw (onEntry 𝓤 H A ask.signature κs (q, (q′, tt)) (d, (w, (p, (x, tt)))) at) ∷ []) ∵ enter ! C Λ code.function (mach ∷ EL.val E.the-type E′.the-laws w ∷ LL.val Q.the-type Q′.the-laws p ∷ s ∷ []) _ $
@@ -160,13 +160,13 @@ module _ {M : Type 1} (𝓤 : URA M) (H : Heap 𝓤) (A : Atoms 𝓤) (W : Given
         keep ! (0 ∷ 1 ∷ 2 ∷ 7 ∷ []) $ by ! (exits n u (zs .1 .1 .1 .0) e l)))))))))))))))
 
 module _ {M : Type 1} (𝓤 : URA M) (H : Heap 𝓤) (A : Atoms 𝓤) (W : Given 𝓤 H A) (mem : Memory → SProp 𝓤) (run : Routine → Fun 𝓤) where
-  ask-walks : (C : Calls 𝓤 H) (Λ : Loops 𝓤 H) → FmC 𝓤 H (W .laws) C → Triple 𝓤 (C #opened·asked) (Callee 𝓤 H A mem run)
+  ask-walks : (C : Calls 𝓤 H) (Λ : Loops 𝓤 H) → FmC 𝓤 H (W .laws) C → Triple 𝓤 (C #opened·ask-words) (Callee 𝓤 H A mem run)
       → Walks 𝓤 H A ask.ended stayed (WpFn 𝓤 H C Λ code.function) (ask.clauses 𝓤 H A mem run)
   ask-walks C Λ fm known = walked 𝓤 H A ask.ended stayed (ask.clauses 𝓤 H A mem run) (WpFn 𝓤 H C Λ code.function) (λ κs. (LL.vals (D κs) (L κs), (EL.vals E.the-type E′.the-laws, (LL.vals Q.the-type Q′.the-laws, (slice-vals, tt))))) (λ κs. (LL.tells (D κs) (L κs), (EL.tells E.the-type E′.the-laws, (LL.tells Q.the-type Q′.the-laws, (mut-slice-tells (named 1) (κs .1 .0) u32, tt)))))
       (λ κs qs bounds a g are. via 𝓤 _ (fst∗ 𝓤 _ (emp 𝓤)) (walk 𝓤 H A W mem run (κs .0) (κs .1 .0) (qs .0) (qs .1 .0) (a .0) (a .1 .0) (a .1 .1 .0) (a .1 .1 .1 .0) (are .1 .0) (are .1 .1 .0) C Λ fm known (LL.lawful (D κs) (L κs) 𝓤 H A W .typed (a .0) _ (are .0) .0) (are .1 .1 .1 .0)))
 
 ask-meets : {M : Type 1} (𝓤 : URA M) (H : Heap 𝓤) (A : Atoms 𝓤) (W : Given 𝓤 H A) (mem : Memory → SProp 𝓤) (run : Routine → Fun 𝓤) (𝓣 : Tables 𝓤 H)
-    → Triple 𝓤 (𝓣 .C #opened·asked) (Callee 𝓤 H A mem run)
+    → Triple 𝓤 (𝓣 .C #opened·ask-words) (Callee 𝓤 H A mem run)
     → Meets 𝓤 H A ask.signature (WpFn 𝓤 H (𝓣 .C) (𝓣 .Λ) code.function) (ask.spec 𝓤 H A mem run)
 ask-meets 𝓤 H A W mem run 𝓣 known = walk-meets 𝓤 H A ask.ended stayed W (goes-none 𝓤 H A W 2 B yes (λ κs x f. refl), (goes-none 𝓤 H A W 2 (λ _. E.the-row) yes (λ κs x f. refl), (goes-none 𝓤 H A W 2 (λ _. Q.the-row) yes (λ κs x f. refl), (goes-gave-slice 𝓤 H A W 2 1 tt (plain (λ _. u32)), tt)))) (ask.clauses 𝓤 H A mem run) (WpFn 𝓤 H (𝓣 .C) (𝓣 .Λ) code.function) (WpFn-mono 𝓤 H (W .laws) 𝓣 code.function)
     (ask-walks 𝓤 H A W mem run (𝓣 .C) (𝓣 .Λ) (fmOf 𝓤 H (W .laws) 𝓣) known)
@@ -177,4 +177,4 @@ ask-spec 𝓤 H 𝓜 𝓖 𝓡 =
     entered 𝓤 H (tripleOf 𝓤 H (𝓖 .A) ask.signature (ask.spec 𝓤 H (𝓖 .A) (𝓜 .mem) (𝓡 .run)))
     (tables 𝓤 H 𝓜 𝓡 code.env .C) (tables 𝓤 H 𝓜 𝓡 code.env .Λ) #opened·ask code.function (code.unfolded 𝓤 H 𝓜 𝓡)
     (ask-meets 𝓤 H (𝓖 .A) (givenOf 𝓤 H 𝓜 𝓖) (𝓜 .mem) (𝓡 .run) (tablesOf 𝓤 H 𝓜 (tables 𝓤 H 𝓜 𝓡 code.env))
-    (cited 𝓤 H (Callee 𝓤 H (𝓖 .A) (𝓜 .mem) (𝓡 .run)) 𝓜 𝓡 code.env #opened·asked callee-def.routine code.calls-opened·asked (callee-thm.met 𝓤 H 𝓜 𝓖 𝓡)))
+    (cited 𝓤 H (Callee 𝓤 H (𝓖 .A) (𝓜 .mem) (𝓡 .run)) 𝓜 𝓡 code.env #opened·ask-words callee-def.routine code.calls-opened·ask-words (callee-thm.met 𝓤 H 𝓜 𝓖 𝓡)))

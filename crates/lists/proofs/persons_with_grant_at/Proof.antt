@@ -1,10 +1,10 @@
--- `lists::persons_holding` meets its contract: the folio has a row, and those whose walk for the deed leads to it have a grant path.
+-- `lists::persons_with_grant_at` meets its contract: the folio has a row, and those whose walk for the deed leads to it have a grant path.
 -- Assumes nothing.
 use Rattle.lists.proofs.Persons.{found-in, found-key, holders-found, known-some}
 use native.Mathlib.Omega.{arith}
 use borrow.Author.Needs.{needs}
-use Rattle.lists.proofs.persons_holding.Statement.{statement}
-use Rattle.lists.proofs.persons_holding.Tie as tie
+use Rattle.lists.proofs.persons_with_grant_at.Statement.{statement}
+use Rattle.lists.proofs.persons_with_grant_at.Tie as tie
 
 seek-requires : tie.Need-seek-requires
 seek-requires c κs = search needs
@@ -23,5 +23,5 @@ returns c =
     let E = c .before .before .before .before .seek .ensures in
     holders-found _ _ _ _ (S .pre .0) _ _ (found-in _ _ _ (S .pre .0 .formed) _ _ _ _ (S .pre .2) E) _ (found-key _ _ _ (S .pre .0 .formed) _ _ _ _ (S .pre .2) E (λ z. omega arith)) (known-some _ _ _ (S .pre .0 .formed) _ _ _ (S .pre .1)) (c .before .before .persons-to .ensures)
 
-pub persons-holding-spec : {M : Type 1} → statement M
-persons-holding-spec = tie.close (tie.spec seek-requires persons-to-requires same-length returns)
+pub persons-with-grant-at-spec : {M : Type 1} → statement M
+persons-with-grant-at-spec = tie.close (tie.spec seek-requires persons-to-requires same-length returns)

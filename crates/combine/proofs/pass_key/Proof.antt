@@ -1,11 +1,11 @@
--- `combine::step` meets its contract: each case of the comparison is a case of the step.
+-- `combine::pass_key` meets its contract: each case of the comparison is a case of the step.
 -- Assumes nothing.
 use native.Mathlib.Omega.{arith}
 use Rattle.sheet.proofs.Refusing.{via}
 use Rattle.combine.proofs.Reading.{few, moves-first, moves-second, moves-both}
 use borrow.Author.Needs.{needs}
-use Rattle.combine.proofs.step.Statement.{statement}
-use Rattle.combine.proofs.step.Tie as tie
+use Rattle.combine.proofs.pass_key.Statement.{statement}
+use Rattle.combine.proofs.pass_key.Tie as tie
 
 count-in-requires : tie.Need-count-in-requires
 count-in-requires c κs = search needs
@@ -85,8 +85,8 @@ returns-5 c = let z = c .before .before .before .before .before .before .before 
     let g = c .before .before .before .before .before .if2 .left in
     moves-both _ _ _ _ _ _ _ (c .at5 .ensures) (omega (arith, z, l)) (omega (arith, y, g)) (via (c .before .before .before .before .below-at .ensures) (c .before .before .before .if3 .left)) (via (c .before .before .below-at2 .ensures) (c .before .if4 .left))
 
-pub step-spec : {M : Type 1} → statement M
-step-spec =
+pub pass-key-spec : {M : Type 1} → statement M
+pass-key-spec =
     tie.close
     (tie.spec
     count-in-requires

@@ -20,7 +20,7 @@ use Rattle.combine.specs.declared.Part.{Part}
 use Rattle.combine.specs.declared.Part.the-variants.{Nodes, Edges}
 use Rattle.combine.specs.declared.Rule.{Rule}
 use Rattle.combine.specs.declared.Next.{Next}
-use Rattle.combine.specs.Combined.{keys, Combined, rowsKept, Stepped, given, Places}
+use Rattle.combine.specs.Combined.{keys, Combined, rowsKept, Stepped, given, PlacesIn}
 use Rattle.combine.specs.Rules.{makes, Safe}
 
 -- how many rows there are
@@ -59,7 +59,7 @@ pub record Moves (n : ℕ) (f : ℕ → Row) (m : ℕ) (g : ℕ → Row) (i j ne
   pub stepped : Stepped n (keys f) m (keys g) i j key next-i next-j
 
 -- .. with the marks that the rule makes there
-pub record Steps (rule : Rule) (part : Part) (a : List ℕ) (h : Header) (b : List ℕ) (g : Header) (i j : ℕ) (r : Next) : Type 0 where
+pub record MarkedStep (rule : Rule) (part : Part) (a : List ℕ) (h : Header) (b : List ℕ) (g : Header) (i j : ℕ) (r : Next) : Type 0 where
   pub moves : Moves (countIn part h) (rowAt part a) (countIn part g) (rowAt part b) i j (r .i) (r .j)
   pub made : r .marks ≡ makes rule (given (rowAt part a) i (r .i)) (given (rowAt part b) j (r .j))
 
@@ -86,8 +86,8 @@ pub record Surveyed (rule : Rule) (part : Part) (a : List ℕ) (h : Header) (b :
   pub row : ℕ → Row
   pub combined : PartIs rule part a h b g k row
   pub count : k ≡ partRows rule part a h b g
-  pub first : countIn part h ≤ length ma → Places (rowAt part a) (countIn part h) (λ x. getD ma x 0) k row
-  pub second : countIn part g ≤ length mb → Places (rowAt part b) (countIn part g) (λ x. getD mb x 0) k row
+  pub first : countIn part h ≤ length ma → PlacesIn (rowAt part a) (countIn part h) (λ x. getD ma x 0) k row
+  pub second : countIn part g ≤ length mb → PlacesIn (rowAt part b) (countIn part g) (λ x. getD mb x 0) k row
 
 -- a row's words are those of a row of one of the sheets that has its key
 pub data Spelled (part : Part) (a : List ℕ) (h : Header) (b : List ℕ) (g : Header) (ma mb : List ℕ) (r : Row) (e : Edge) : Type 0 where

@@ -1,10 +1,10 @@
--- `lists::persons_within` meets its contract: the category has a row, and those whose walk leads to it are in the category.
+-- `lists::persons_in_category_at` meets its contract: the category has a row, and those whose walk leads to it are in the category.
 -- Assumes nothing.
 use Rattle.lists.proofs.Persons.{found-in, found-key, persons-found}
 use native.Mathlib.Omega.{arith}
 use borrow.Author.Needs.{needs}
-use Rattle.lists.proofs.persons_within.Statement.{statement}
-use Rattle.lists.proofs.persons_within.Tie as tie
+use Rattle.lists.proofs.persons_in_category_at.Statement.{statement}
+use Rattle.lists.proofs.persons_in_category_at.Tie as tie
 
 seek-requires : tie.Need-seek-requires
 seek-requires c κs = search needs
@@ -23,5 +23,5 @@ returns c =
     let E = c .before .before .before .before .seek .ensures in
     persons-found _ _ _ _ (S .pre .0) _ _ (found-in _ _ _ (S .pre .0 .formed) _ _ _ _ (S .pre .1) E) _ (found-key _ _ _ (S .pre .0 .formed) _ _ _ _ (S .pre .1) E (λ z. omega arith)) (c .before .before .persons-to .ensures)
 
-pub persons-within-spec : {M : Type 1} → statement M
-persons-within-spec = tie.close (tie.spec seek-requires persons-to-requires same-length returns)
+pub persons-in-category-at-spec : {M : Type 1} → statement M
+persons-in-category-at-spec = tie.close (tie.spec seek-requires persons-to-requires same-length returns)

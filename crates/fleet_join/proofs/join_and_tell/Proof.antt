@@ -1,9 +1,9 @@
--- `fleet_join::run` is safe: what is stored is a part of the output.
+-- `fleet_join::join_and_tell` is safe: what is stored is a part of the output.
 -- Assumes nothing.
 use borrow.Author.Needs.{needs}
 use Rattle.join_files.proofs.Joining.{joint-part}
-use Rattle.fleet_join.proofs.run.Statement.{statement}
-use Rattle.fleet_join.proofs.run.Tie as tie
+use Rattle.fleet_join.proofs.join_and_tell.Statement.{statement}
+use Rattle.fleet_join.proofs.join_and_tell.Tie as tie
 
 slice-aggregate-join-files : tie.Need-slice-aggregate-join-files
 slice-aggregate-join-files c = search needs
@@ -38,8 +38,8 @@ tell-requires c κs = search needs
 returns-2 : tie.Need-returns-2
 returns-2 c = search needs
 
-pub run-spec : {M : Type 1} → statement M
-run-spec =
+pub join-and-tell-spec : {M : Type 1} → statement M
+join-and-tell-spec =
     tie.close
     (tie.spec
     slice-aggregate-join-files

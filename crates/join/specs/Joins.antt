@@ -60,12 +60,12 @@ unfoldable pub joinFault : List ℕ → List ℕ → ℕ → Refusal
 joinFault a b room = sheetsFault a b then unionFault a b room
 
 -- a refusal's number and place, and nothing else
-abbrev pub refusedBy : Refusal → Joined
-refusedBy r = record { number = r .number; sheet = r .sheet; row = r .row; words = 0; nodes = 0; edges = 0; sharednodes = 0; sharededges = 0 }
+abbrev pub refusedJoin : Refusal → Joined
+refusedJoin r = record { number = r .number; sheet = r .sheet; row = r .row; words = 0; nodes = 0; edges = 0; sharednodes = 0; sharededges = 0 }
 
 -- the joint sheet's words and counts, with the shared counts of the sheets joined
-abbrev pub tells : List ℕ → List ℕ → List ℕ → Joined
-tells a b j = record {
+abbrev pub madeJoin : List ℕ → List ℕ → List ℕ → Joined
+madeJoin a b j = record {
   number = 0;
   sheet = 0;
   row = 0;
@@ -78,11 +78,11 @@ tells a b j = record {
 
 -- joining a and b, the joint sheet being spelled so in the output: refused, and nothing is written; or the join stands in front, its rows and the shared ones being as many as the sheets have
 pub data JoinsAs (spelled : List ℕ → List ℕ) (refusal : Refusal) (a b out : List ℕ) : Joined → List ℕ → Type 0 where
-  refused : (refusal .number ≡ 0 → ⊥) → JoinsAs spelled refusal a b out (refusedBy refusal) out
+  refused : (refusal .number ≡ 0 → ⊥) → JoinsAs spelled refusal a b out (refusedJoin refusal) out
   joined : (j : List ℕ) → refusal .number ≡ 0 → IsJoin a b j
       → headerOf j .nodes + sharedNodes a b ≡ headerOf a .nodes + headerOf b .nodes
       → headerOf j .edges + sharedEdges a b ≡ headerOf a .edges + headerOf b .edges
-      → length (spelled j) ≤ length out → JoinsAs spelled refusal a b out (tells a b j) (spelled j ++ drop (length (spelled j)) out)
+      → length (spelled j) ≤ length out → JoinsAs spelled refusal a b out (madeJoin a b j) (spelled j ++ drop (length (spelled j)) out)
 
 -- .. as its words are
 abbrev pub Joins : Refusal → List ℕ → List ℕ → List ℕ → Joined → List ℕ → Type 0

@@ -1,11 +1,11 @@
--- `opened::asked` meets its contract: in each arm the question's own statement is what its number promises.
+-- `opened::ask_words` meets its contract: in each arm the question's own statement is what its number promises.
 -- Assumes nothing.
 use mathlib.Core.Path.{refl}
 use borrow.Author.Needs.{needs}
-use Rattle.opened.specs.Asking.{questionOf, Answers}
+use Rattle.opened.specs.Asking.{questionOf, Promised}
 use Rattle.opened.proofs.Naming.{as-named}
-use Rattle.opened.proofs.asked.Statement.{statement}
-use Rattle.opened.proofs.asked.Tie as tie
+use Rattle.opened.proofs.ask_words.Statement.{statement}
+use Rattle.opened.proofs.ask_words.Tie as tie
 
 enum-told : tie.Need-enum-told
 enum-told c = search needs
@@ -62,64 +62,64 @@ redundant-edges-requires : tie.Need-redundant-edges-requires
 redundant-edges-requires c κs = search needs
 
 returns : tie.Need-returns
-unfolding questionOf Answers
+unfolding questionOf Promised
 returns c = as-named _ _ _ _ _ _ _ (c .before .enum-told .given .1) (c .answer-at-office .ensures, refl)
 
 returns-2 : tie.Need-returns-2
-unfolding questionOf Answers
+unfolding questionOf Promised
 returns-2 c = as-named _ _ _ _ _ _ _ (c .before .enum-told2 .given .1) (c .joint-answer .ensures, refl)
 
 same-length : tie.Need-same-length
 same-length c = search needs
 
 returns-3 : tie.Need-returns-3
-unfolding questionOf Answers
+unfolding questionOf Promised
 returns-3 c = as-named _ _ _ _ _ _ _ (c .before .before .before .before .enum-told3 .given .1) (c .before .before .witness .ensures)
 
 same-length-2 : tie.Need-same-length-2
 same-length-2 c = search needs
 
 returns-4 : tie.Need-returns-4
-unfolding questionOf Answers
+unfolding questionOf Promised
 returns-4 c = as-named _ _ _ _ _ _ _ (c .before .before .before .before .enum-told4 .given .1) (c .before .before .persons-in-category .ensures)
 
 same-length-3 : tie.Need-same-length-3
 same-length-3 c = search needs
 
 returns-5 : tie.Need-returns-5
-unfolding questionOf Answers
+unfolding questionOf Promised
 returns-5 c = as-named _ _ _ _ _ _ _ (c .before .before .before .before .enum-told5 .given .1) (c .before .before .persons-with-grant .ensures)
 
 same-length-4 : tie.Need-same-length-4
 same-length-4 c = search needs
 
 returns-6 : tie.Need-returns-6
-unfolding questionOf Answers
+unfolding questionOf Promised
 returns-6 c = as-named _ _ _ _ _ _ _ (c .before .before .before .before .enum-told6 .given .1) (c .before .before .folios-out-of-reach .ensures)
 
 same-length-5 : tie.Need-same-length-5
 same-length-5 c = search needs
 
 returns-7 : tie.Need-returns-7
-unfolding questionOf Answers
+unfolding questionOf Promised
 returns-7 c = as-named _ _ _ _ _ _ _ (c .before .before .before .before .enum-told7 .given .1) (c .before .before .least-triple .ensures)
 
 same-length-6 : tie.Need-same-length-6
 same-length-6 c = search needs
 
 returns-8 : tie.Need-returns-8
-unfolding questionOf Answers
+unfolding questionOf Promised
 returns-8 c = as-named _ _ _ _ _ _ _ (c .before .before .before .before .enum-told8 .given .1) (c .before .before .least-holder .ensures)
 
 same-length-7 : tie.Need-same-length-7
 same-length-7 c = search needs
 
 returns-9 : tie.Need-returns-9
-unfolding questionOf Answers
+unfolding questionOf Promised
 returns-9 c = as-named _ _ _ _ _ _ _ (c .before .before .before .before .enum-told9 .given .1) (c .before .before .redundant-edges .ensures)
 
-pub asked-spec : {M : Type 1} → statement M
-asked-spec =
+pub ask-words-spec : {M : Type 1} → statement M
+ask-words-spec =
     tie.close
     (tie.spec
     enum-told
