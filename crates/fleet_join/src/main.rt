@@ -23,7 +23,7 @@ fn fill(fd: i32, bytes: &[u8]) -> bool {
 }
 
 // Whether the joint sheet now has the bytes. It gets them whole or not at all: where anything fails, what was there stays, nothing is left beside it, and standard error says why.
-fn store(bytes: &[u8]) -> bool {
+fn store_joint(bytes: &[u8]) -> bool {
     let mut name = *b"joint.sheet.XXXXXX";
     let fd = make_beside(&mut name);
     if fd < 0 {
@@ -54,7 +54,7 @@ fn join_and_tell(first: &[u8], second: &[u8]) {
     let j = join_files::join_files(first, second, &mut out);
     if j.number == 0 {
         let n = 4 * (j.words as usize);
-        if !store(&out[0..n]) {
+        if !store_joint(&out[0..n]) {
             return;
         }
     }

@@ -301,7 +301,7 @@ fn bad_pair(sheet: &[u32], h: Header, seat: Seat, q: Question) -> u32
 }
 
 // What is refused of a question from the seat, by the question's number.
-fn fault_at(number: u32, sheet: &[u32], h: Header, seat: Seat, q: Question) -> u32
+fn sought_fault(number: u32, sheet: &[u32], h: Header, seat: Seat, q: Question) -> u32
     requires { ⌜ NodesFormed (now sheet) h × (h ≡ headerOf (now sheet)) × Seated seat × (seat ≡ seatFor q) × (badOffice h (q .office) ≡ 0) ⌝ }
     ensures { λ r. ⌜ r ≡ soughtFault number (now (sheet .entry)) q ⌝ }
 {
@@ -411,7 +411,7 @@ fn sought_checked(
         return question::refused_by(n);
     }
     let seat = question::seat_at(q.office);
-    let m = fault_at(number, sheet, h, seat, q);
+    let m = sought_fault(number, sheet, h, seat, q);
     if m != 0 {
         return question::refused_by(m);
     }

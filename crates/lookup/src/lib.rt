@@ -40,7 +40,7 @@ fn missing_in(first: &[u32], second: &[u32], wanted: Node) -> u32
 }
 
 // What is refused of a lookup.
-fn refusal_of(first: &[u32], second: &[u32], wanted: Node) -> Refusal
+fn look_fault(first: &[u32], second: &[u32], wanted: Node) -> Refusal
     ensures { λ r. ⌜ r ≡ lookFault (now (first .entry)) (now (second .entry)) (nodeKey wanted) ⌝ }
 {
     let r = verdict::check_as(1, first);
@@ -69,7 +69,7 @@ pub fn look_up<'a>(
     ensures { λ r. ⌜ LooksUp (lent (first .entry)) (lent (second .entry)) (identity class number variant) (lent r) ⌝ }
 {
     let wanted = sheet::named(class, number, variant);
-    let r = refusal_of(first, second, wanted);
+    let r = look_fault(first, second, wanted);
     if r.number != 0 {
         return &first[0..0];
     }
@@ -96,7 +96,7 @@ pub fn look_up_place(first: &[u32], second: &[u32], class: u32, number: u32, var
     ensures { λ a. ⌜ PlacesIdentity (now (first .entry)) (now (second .entry)) (identity class number variant) a ⌝ }
 {
     let wanted = sheet::named(class, number, variant);
-    let r = refusal_of(first, second, wanted);
+    let r = look_fault(first, second, wanted);
     if r.number != 0 {
         return question::refused(r);
     }
@@ -119,5 +119,5 @@ pub fn look_up_refusal(
     ensures { λ r. ⌜ r ≡ lookFault (now (first .entry)) (now (second .entry)) (identity class number variant) ⌝ }
 {
     let wanted = sheet::named(class, number, variant);
-    refusal_of(first, second, wanted)
+    look_fault(first, second, wanted)
 }

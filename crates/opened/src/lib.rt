@@ -28,7 +28,7 @@ pub enum Which {
 }
 
 // The word at a place; 0 where there are too few words.
-fn word_at(words: &[u32], i: usize) -> u32
+fn word_or_zero(words: &[u32], i: usize) -> u32
     ensures { λ r. ⌜ r ≡ word (now (words .entry)) i ⌝ }
 {
     if i < words.len() {
@@ -42,12 +42,12 @@ fn header_named(words: &[u32]) -> Header
     ensures { λ r. ⌜ r ≡ headerOf (now (words .entry)) ⌝ }
 {
     Header {
-        form: word_at(words, 0),
-        offices: word_at(words, 1),
-        nodes: word_at(words, 2),
-        edges: word_at(words, 3),
-        nodeoffset: word_at(words, 4),
-        edgeoffset: word_at(words, 5),
+        form: word_or_zero(words, 0),
+        offices: word_or_zero(words, 1),
+        nodes: word_or_zero(words, 2),
+        edges: word_or_zero(words, 3),
+        nodeoffset: word_or_zero(words, 4),
+        edgeoffset: word_or_zero(words, 5),
     }
 }
 

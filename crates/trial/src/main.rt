@@ -93,7 +93,7 @@ fn question_of(number: u32, q: Request) -> Question {
 }
 
 // Operations 1 to 4 on words.
-fn ask_words(q: Request, sheet: &[u32], list: &[u32], out: &mut [u32]) -> Answer {
+fn bare_words(q: Request, sheet: &[u32], list: &[u32], out: &mut [u32]) -> Answer {
     let operation = q.operation;
     let question = question_of(operation, q);
     match operation {
@@ -149,7 +149,7 @@ fn list_words(q: Request, sheet: &[u32], out: &mut [u32]) -> Answer {
 }
 
 // Copies as many words of a part as the output has room for.
-fn copy(part: &[u32], out: &mut [u32]) {
+fn copy_part(part: &[u32], out: &mut [u32]) {
     let n = part.len();
     let mut i: usize = 0;
     while i < n {
@@ -166,7 +166,7 @@ fn look_words<'a>(q: Request, first: &'a [u32], second: &'a [u32], out: &mut [u3
     let part = lookup::look_up(first, second, q.a1, q.a2, q.a3);
     let r = lookup::look_up_refusal(first, second, q.a1, q.a2, q.a3);
     let count = part.len() as u32;
-    copy(part, out);
+    copy_part(part, out);
     Reply {
         number: r.number,
         sheet: r.sheet,
@@ -228,7 +228,7 @@ fn answer<'a>(
 {
     let operation = q.operation;
     if (1 <= operation) & (operation <= 4) {
-        return replied(ask_words(q, first, second, out));
+        return replied(bare_words(q, first, second, out));
     }
     if (5 <= operation) & (operation <= 10) {
         return replied(list_words(q, first, out));
@@ -260,7 +260,7 @@ fn answer<'a>(
 }
 
 // Every word of the output, as the request fills it.
-fn fill(out: &mut [u32], word: u32)
+fn fill_with(out: &mut [u32], word: u32)
     ensures { λ _. ⌜ now (out .exit) ≡ replicate (length (now (out .entry))) word ⌝ }
 {
     let n = out.len();
@@ -309,7 +309,7 @@ fn respond<'a>(
 )
     requires { ⌜ length (now out) ≤ 20000 ⌝ }
 {
-    fill(out, q.fill);
+    fill_with(out, q.fill);
     let r = answer(q, file, first, second, out);
     send_head(r, q.room, bytes);
     send(out, bytes);

@@ -17,17 +17,17 @@ cast-n c = search needs
 mul-n : tie.Need-mul-n
 mul-n c = search needs
 
-sub-store : tie.Need-sub-store
-sub-store c = search needs
+sub-store-joint : tie.Need-sub-store-joint
+sub-store-joint c = search needs
 
-part-store-start : tie.Need-part-store-start
-part-store-start c = search needs
+part-store-joint-start : tie.Need-part-store-joint-start
+part-store-joint-start c = search needs
 
-part-store-end : tie.Need-part-store-end
-part-store-end c = joint-part _ _ _ _ (c .before .before .before .before .before .join-files .ensures) (c .before .before .if1 .taken)
+part-store-joint-end : tie.Need-part-store-joint-end
+part-store-joint-end c = joint-part _ _ _ _ (c .before .before .before .before .before .join-files .ensures) (c .before .before .if1 .taken)
 
-store-requires : tie.Need-store-requires
-store-requires c κs = search needs
+store-joint-requires : tie.Need-store-joint-requires
+store-joint-requires c κs = search needs
 
 returns : tie.Need-returns
 returns c = search needs
@@ -46,10 +46,10 @@ join-and-tell-spec =
     join-files-requires
     cast-n
     mul-n
-    sub-store
-    part-store-start
-    part-store-end
-    store-requires
+    sub-store-joint
+    part-store-joint-start
+    part-store-joint-end
+    store-joint-requires
     returns
     tell-requires
     returns-2)

@@ -1,12 +1,12 @@
--- `lists::fault_at` meets its contract: the office has a number, so the question's own line is what is refused.
+-- `lists::sought_fault` meets its contract: the office has a number, so the question's own line is what is refused.
 -- Assumes nothing.
 use Rattle.lists.proofs.Picking.{fault-after}
 use Rattle.sheet.specs.Refusals.{_when_otherwise_}
 use borrow.Author.Tests.{eq-eqb, ne-eqb}
 use mathlib.Core.Path.{refl, sym, _∙_}
 use borrow.Author.Needs.{needs}
-use Rattle.lists.proofs.fault_at.Statement.{statement}
-use Rattle.lists.proofs.fault_at.Tie as tie
+use Rattle.lists.proofs.sought_fault.Statement.{statement}
+use Rattle.lists.proofs.sought_fault.Tie as tie
 
 unknown-category-requires : tie.Need-unknown-category-requires
 unknown-category-requires c κs = search needs
@@ -41,8 +41,8 @@ returns-4 c =
     let S = c .before .before .before .before in
     sym (fault-after _ _ _ _ (S .pre .1) (S .pre .4) ∙ rw (ne-eqb _ _ (c .before .before .if1 .left), ne-eqb _ _ (c .before .if2 .left), ne-eqb _ _ (c .if3 .left)) refl)
 
-pub fault-at-spec : {M : Type 1} → statement M
-fault-at-spec =
+pub sought-fault-spec : {M : Type 1} → statement M
+sought-fault-spec =
     tie.close
     (tie.spec
     unknown-category-requires

@@ -1,10 +1,10 @@
--- `lookup::refusal_of` meets its contract: the first sheet wholly, then the second, then 32.
+-- `lookup::look_fault` meets its contract: the first sheet wholly, then the second, then 32.
 -- Assumes nothing.
 use Rattle.lookup.proofs.Looking.{first-refuses, second-refuses, neither-refuses}
 use Rattle.sheet.proofs.Forming.{passed}
 use borrow.Author.Needs.{needs}
-use Rattle.lookup.proofs.refusal_of.Statement.{statement}
-use Rattle.lookup.proofs.refusal_of.Tie as tie
+use Rattle.lookup.proofs.look_fault.Statement.{statement}
+use Rattle.lookup.proofs.look_fault.Tie as tie
 
 check-as-requires : tie.Need-check-as-requires
 check-as-requires c κs = search needs
@@ -24,8 +24,8 @@ missing-in-requires c κs = (passed _ _ _ (c .before .before .before .before .be
 returns-3 : tie.Need-returns-3
 returns-3 c = neither-refuses _ _ _ _ _ _ (c .before .before .before .before .before .before .check-as .ensures) (c .before .before .before .before .if1 .left) (c .before .before .before .check-as2 .ensures) (c .before .if2 .left) (c .missing-in .ensures)
 
-pub refusal-of-spec : {M : Type 1} → statement M
-refusal-of-spec =
+pub look-fault-spec : {M : Type 1} → statement M
+look-fault-spec =
     tie.close
     (tie.spec
     check-as-requires

@@ -11,8 +11,8 @@ use Rattle.lookup.proofs.look_up.Tie as tie
 named-requires : tie.Need-named-requires
 named-requires c κs = search needs
 
-refusal-of-requires : tie.Need-refusal-of-requires
-refusal-of-requires c κs = search needs
+look-fault-requires : tie.Need-look-fault-requires
+look-fault-requires c κs = search needs
 
 sub-result : tie.Need-sub-result
 sub-result c = search needs
@@ -26,13 +26,13 @@ part-result-end c = search needs
 returns : tie.Need-returns
 returns c =
     let A = c .before .before .before .before .before .before .before .args in
-    gives-none (lent (A .first)) (lent (A .second)) _ _ _ (c .before .before .before .refusal-of .ensures) (c .before .before .before .before .named .ensures) (c .before .if1 .taken)
+    gives-none (lent (A .first)) (lent (A .second)) _ _ _ (c .before .before .before .look-fault .ensures) (c .before .before .before .before .named .ensures) (c .before .if1 .taken)
 
 place-in-requires : tie.Need-place-in-requires
-place-in-requires c κs = both-accepted _ _ _ _ (c .before .before .refusal-of .ensures) (c .if1 .left) .0
+place-in-requires c κs = both-accepted _ _ _ _ (c .before .before .look-fault .ensures) (c .if1 .left) .0
 
 add-e : tie.Need-add-e
-add-e c = omega (arith, first-row _ _ _ _ (c .before .before .before .before .refusal-of .ensures) _ (c .before .before .if1 .left) (c .before .place-in .ensures) (c .if2 .taken) .room)
+add-e c = omega (arith, first-row _ _ _ _ (c .before .before .before .before .look-fault .ensures) _ (c .before .before .if1 .left) (c .before .place-in .ensures) (c .if2 .taken) .room)
 
 mul-result : tie.Need-mul-result
 mul-result c = search needs
@@ -44,22 +44,22 @@ part-result-start-2 : tie.Need-part-result-start-2
 part-result-start-2 c = search needs
 
 part-result-end-2 : tie.Need-part-result-end-2
-part-result-end-2 c = first-row _ _ _ _ (c .before .before .before .before .refusal-of .ensures) _ (c .before .before .if1 .left) (c .before .place-in .ensures) (c .if2 .taken) .room
+part-result-end-2 c = first-row _ _ _ _ (c .before .before .before .before .look-fault .ensures) _ (c .before .before .if1 .left) (c .before .place-in .ensures) (c .if2 .taken) .room
 
 returns-2 : tie.Need-returns-2
 returns-2 c =
     let A = c .before .before .before .before .before .before .before .before .before .args in
-    let R = c .before .before .before .before .before .refusal-of .ensures in
+    let R = c .before .before .before .before .before .look-fault .ensures in
     let Z = c .before .before .before .if1 .left in
     gives-first (lent (A .first)) (lent (A .second)) _ _ _ R (c .before .before .before .before .before .before .named .ensures) _ Z
     (first-row _ _ _ _ R _ Z (c .before .before .place-in .ensures) (c .before .if2 .taken))
 
 place-in-requires-2 : tie.Need-place-in-requires-2
-place-in-requires-2 c κs = both-accepted _ _ _ _ (c .before .before .before .before .refusal-of .ensures) (c .before .before .if1 .left) .1
+place-in-requires-2 c κs = both-accepted _ _ _ _ (c .before .before .before .before .look-fault .ensures) (c .before .before .if1 .left) .1
 
 -- the row in the second sheet
 found : (k : tie.After-place-in2) → StandingRow (k .before .before .before .before .before .before .before .before .before .args .second .now) (nodeKey (k .before .before .before .before .before .before .named .result)) (k .place-in2 .result)
-found k = second-row _ _ _ _ (k .before .before .before .before .before .refusal-of .ensures) _ _ (k .before .before .before .if1 .left) (k .before .before .place-in .ensures) (k .before .if2 .left) (k .place-in2 .ensures)
+found k = second-row _ _ _ _ (k .before .before .before .before .before .look-fault .ensures) _ _ (k .before .before .before .if1 .left) (k .before .before .place-in .ensures) (k .before .if2 .left) (k .place-in2 .ensures)
 
 add-f : tie.Need-add-f
 add-f c = omega (arith, found c .low)
@@ -79,7 +79,7 @@ part-result-end-3 c = found c .room
 returns-3 : tie.Need-returns-3
 returns-3 c =
     let A = c .before .before .before .before .before .before .before .before .before .before .args in
-    let R = c .before .before .before .before .before .before .refusal-of .ensures in
+    let R = c .before .before .before .before .before .before .look-fault .ensures in
     let Z = c .before .before .before .before .if1 .left in
     gives-second (lent (A .first)) (lent (A .second)) _ _ _ R (c .before .before .before .before .before .before .before .named .ensures) _ Z
     (has-none _ _ _ (both-accepted _ _ _ _ R Z .0) (c .before .before .before .place-in .ensures) (c .before .before .if2 .left)) (found (c .before))
@@ -89,7 +89,7 @@ look-up-spec =
     tie.close
     (tie.spec
     named-requires
-    refusal-of-requires
+    look-fault-requires
     sub-result
     part-result-start
     part-result-end

@@ -10,21 +10,21 @@ use Rattle.lookup.proofs.look_up_place.Tie as tie
 named-requires : tie.Need-named-requires
 named-requires c κs = search needs
 
-refusal-of-requires : tie.Need-refusal-of-requires
-refusal-of-requires c κs = search needs
+look-fault-requires : tie.Need-look-fault-requires
+look-fault-requires c κs = search needs
 
 refused-requires : tie.Need-refused-requires
 refused-requires c κs = search needs
 
 returns : tie.Need-returns
-returns c = place-part _ _ _ _ _ (c .before .before .before .before .named .ensures) (places-none _ _ _ _ (c .before .before .before .refusal-of .ensures) _ (c .before .if1 .taken) (c .refused .ensures))
+returns c = place-part _ _ _ _ _ (c .before .before .before .before .named .ensures) (places-none _ _ _ _ (c .before .before .before .look-fault .ensures) _ (c .before .if1 .taken) (c .refused .ensures))
 
 place-in-requires : tie.Need-place-in-requires
-place-in-requires c κs = both-accepted _ _ _ _ (c .before .before .refusal-of .ensures) (c .if1 .left) .0
+place-in-requires c κs = both-accepted _ _ _ _ (c .before .before .look-fault .ensures) (c .if1 .left) .0
 
 -- the row in the first sheet
 here : (k : tie.Then2) → StandingRow (k .before .before .before .before .before .before .before .before .args .first .now) (nodeKey (k .before .before .before .before .before .named .result)) (k .before .place-in .result)
-here k = first-row _ _ _ _ (k .before .before .before .before .refusal-of .ensures) _ (k .before .before .if1 .left) (k .before .place-in .ensures) (k .if2 .taken)
+here k = first-row _ _ _ _ (k .before .before .before .before .look-fault .ensures) _ (k .before .before .if1 .left) (k .before .place-in .ensures) (k .if2 .taken)
 
 row-from-requires : tie.Need-row-from-requires
 row-from-requires c κs = let x = here c in (omega (arith, x .place), x .low)
@@ -34,16 +34,16 @@ told-requires c κs = search needs
 
 returns-2 : tie.Need-returns-2
 returns-2 c =
-    let R = c .before .before .before .before .before .before .refusal-of .ensures in
+    let R = c .before .before .before .before .before .before .look-fault .ensures in
     place-part _ _ _ _ _ (c .before .before .before .before .before .before .before .named .ensures)
     (places-first _ _ _ _ R _ _ _ (c .before .before .before .before .if1 .left) (here (c .before .before)) (c .before .row-from .ensures) (c .told .ensures))
 
 place-in-requires-2 : tie.Need-place-in-requires-2
-place-in-requires-2 c κs = both-accepted _ _ _ _ (c .before .before .before .before .refusal-of .ensures) (c .before .before .if1 .left) .1
+place-in-requires-2 c κs = both-accepted _ _ _ _ (c .before .before .before .before .look-fault .ensures) (c .before .before .if1 .left) .1
 
 -- the row in the second sheet
 there : (k : tie.After-place-in2) → StandingRow (k .before .before .before .before .before .before .before .before .before .args .second .now) (nodeKey (k .before .before .before .before .before .before .named .result)) (k .place-in2 .result)
-there k = second-row _ _ _ _ (k .before .before .before .before .before .refusal-of .ensures) _ _ (k .before .before .before .if1 .left) (k .before .before .place-in .ensures) (k .before .if2 .left) (k .place-in2 .ensures)
+there k = second-row _ _ _ _ (k .before .before .before .before .before .look-fault .ensures) _ _ (k .before .before .before .if1 .left) (k .before .before .place-in .ensures) (k .before .if2 .left) (k .place-in2 .ensures)
 
 row-from-requires-2 : tie.Need-row-from-requires-2
 row-from-requires-2 c κs = let x = there c in (omega (arith, x .place), x .low)
@@ -53,7 +53,7 @@ told-requires-2 c κs = search needs
 
 returns-3 : tie.Need-returns-3
 returns-3 c =
-    let R = c .before .before .before .before .before .before .before .refusal-of .ensures in
+    let R = c .before .before .before .before .before .before .before .look-fault .ensures in
     let Z = c .before .before .before .before .before .if1 .left in
     let H = has-none _ _ _ (both-accepted _ _ _ _ R Z .0) (c .before .before .before .before .place-in .ensures) (c .before .before .before .if2 .left) in
     place-part _ _ _ _ _ (c .before .before .before .before .before .before .before .before .named .ensures)
@@ -64,7 +64,7 @@ look-up-place-spec =
     tie.close
     (tie.spec
     named-requires
-    refusal-of-requires
+    look-fault-requires
     refused-requires
     returns
     place-in-requires

@@ -1,11 +1,11 @@
--- `opened::word_at` meets its contract: past the end a word is 0.
+-- `opened::word_or_zero` meets its contract: past the end a word is 0.
 -- Assumes nothing.
 use native.Mathlib.Omega.{arith}
 use mathlib.Core.Path.{sym}
 use lib.ListN.{List·getD-eq-default}
 use borrow.Author.Needs.{needs}
-use Rattle.opened.proofs.word_at.Statement.{statement}
-use Rattle.opened.proofs.word_at.Tie as tie
+use Rattle.opened.proofs.word_or_zero.Statement.{statement}
+use Rattle.opened.proofs.word_or_zero.Tie as tie
 
 mul-result : tie.Need-mul-result
 mul-result c = search needs
@@ -19,5 +19,5 @@ returns c = search needs
 returns-2 : tie.Need-returns-2
 returns-2 c = sym (List·getD-eq-default (c .before .args .words .now) 0 {n = c .before .args .i} (omega (arith, c .if1 .left)))
 
-pub word-at-spec : {M : Type 1} → statement M
-word-at-spec = tie.close (tie.spec mul-result shared-slice-read-result returns returns-2)
+pub word-or-zero-spec : {M : Type 1} → statement M
+word-or-zero-spec = tie.close (tie.spec mul-result shared-slice-read-result returns returns-2)

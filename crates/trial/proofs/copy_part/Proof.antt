@@ -1,12 +1,12 @@
--- `trial::copy` is safe and ends: the output keeps its length.
+-- `trial::copy_part` is safe and ends: the output keeps its length.
 -- Assumes nothing.
 use borrow.Author.Needs.{needs}
 use lib.ListN.{length, getD, length-set}
 use mathlib.Core.Path.{_≡_, refl, _∙_}
 use native.Mathlib.Omega.{arith}
 use Prim.Native.Nat.{ℕ, _-_, _≤_}
-use Rattle.trial.proofs.copy.Statement.{statement}
-use Rattle.trial.proofs.copy.Tie as tie
+use Rattle.trial.proofs.copy_part.Statement.{statement}
+use Rattle.trial.proofs.copy_part.Tie as tie
 
 abbrev Inv-loop : tie.InvT-loop
 Inv-loop part out₀ n i₀ out i = (i ≤ n) × (length out ≡ length out₀)
@@ -64,8 +64,8 @@ same-length-2 c = c .before .loop .inv .1
 returns-2 : tie.Need-returns-2 Inv-loop μ-loop
 returns-2 c = tt
 
-pub copy-spec : {M : Type 1} → statement M
-copy-spec =
+pub copy-part-spec : {M : Type 1} → statement M
+copy-part-spec =
     tie.close
     (tie.spec
     Inv-loop

@@ -1,4 +1,4 @@
--- `trial::fill` meets its contract. The loop's invariant: the first i words are the fill, and behind them stands what stood there.
+-- `trial::fill_with` meets its contract. The loop's invariant: the first i words are the fill, and behind them stands what stood there.
 -- Assumes nothing.
 use Prim.Native.Nat.{_-_, _≤_}
 use mathlib.Core.List.{_++_, append-nil}
@@ -7,8 +7,8 @@ use native.Mathlib.Omega.{arith}
 use lib.ListN.{length, drop, replicate, length-set, drop-of-length-le}
 use borrow.Author.Fill.{fill-none, fill-more}
 use borrow.Author.Needs.{needs}
-use Rattle.trial.proofs.fill.Statement.{statement}
-use Rattle.trial.proofs.fill.Tie as tie
+use Rattle.trial.proofs.fill_with.Statement.{statement}
+use Rattle.trial.proofs.fill_with.Tie as tie
 
 abbrev Inv-loop : tie.InvT-loop
 Inv-loop out₀ word n i₀ out i = (i ≤ n) × (length out ≡ length out₀) × (out ≡ replicate i word ++ drop i out₀)
@@ -48,8 +48,8 @@ returns c = let L = c .before .loop in
     let e : L .i ≡ length (S .args .out .now) = omega arith in
     L .inv .2 ∙ rw (drop-of-length-le (S .args .out .now) {i = L .i} (omega arith), e) (append-nil (replicate (length (S .args .out .now)) (S .args .word)))
 
-pub fill-spec : {M : Type 1} → statement M
-fill-spec =
+pub fill-with-spec : {M : Type 1} → statement M
+fill-with-spec =
     tie.close
     (tie.spec
     Inv-loop

@@ -15,8 +15,8 @@ look-up-refusal-requires c κs = search needs
 cast-count : tie.Need-cast-count
 cast-count c = omega (arith, looked-long _ _ _ _ (c .before .look-up .ensures))
 
-copy-requires : tie.Need-copy-requires
-copy-requires c κs = search needs
+copy-part-requires : tie.Need-copy-part-requires
+copy-part-requires c κs = search needs
 
 same-length : tie.Need-same-length
 same-length c = search needs
@@ -31,6 +31,6 @@ look-words-spec =
     look-up-requires
     look-up-refusal-requires
     cast-count
-    copy-requires
+    copy-part-requires
     same-length
     returns)
