@@ -13,7 +13,7 @@ use Rattle.tables.proofs.Keys.{one-row}
 use Rattle.sheet.specs.Kinds.{categoryType, deedType, memberKind, containedKind, appliesKind}
 use Rattle.sheet.specs.declared.Edge.{Edge}
 use Rattle.sheet.specs.declared.Seat.{Seat}
-use Rattle.sheet.specs.Rows.{headerOf, nodeAt, edgeAt, edgeTable, nodeKeyAt, endsFit}
+use Rattle.sheet.specs.Rows.{headerOf, nodeAt, edgeOf, edgeTable, nodeKeyAt, endsFit}
 use Rattle.sheet.specs.Accepted.{Accepted}
 use Rattle.sheet.specs.Named.{edgeRow}
 use Rattle.sheet.specs.Seats.{countsAt, seenFrom}
@@ -80,7 +80,7 @@ module _ (s : List ℕ) (acc : Accepted s) (seat : Seat) (side : Side) (d : ℕ)
   deed-key i e = cc
 
   abbrev edge : ℕ → Edge
-  edge j = edgeAt (edgeTable s) j
+  edge j = edgeOf s j
 
   -- the part of the test that is about kinds
   abbrev kindTest : ℕ → ℕ → ℕ → Bool

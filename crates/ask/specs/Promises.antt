@@ -28,7 +28,3 @@ WitnessOf s q ws = WitnessIs (asked s q) (sideOf (q .kind)) (q .person) (q .deed
 -- .. which are shown in the lent output
 abbrev pub Witnesses : List ℕ → Question → List ℕ → Answer → List ℕ → Type 0
 Witnesses s q out a out′ = Shows (afterSheet s (askFault s q)) (WitnessOf s q) out a out′
-
--- the question, asked at office 1
-abbrev pub atFirst : Question → Question
-atFirst q = record { office = 1; rule = q .rule; kind = q .kind; person = q .person; category = q .category; deed = q .deed; other = q .other; folio = q .folio }

@@ -17,8 +17,9 @@ use Rattle.sheet.specs.declared.Header.{Header}
 use Rattle.sheet.specs.declared.Node.{Node}
 use Rattle.sheet.specs.declared.Edge.{Edge}
 use Rattle.sheet.specs.declared.Seat.{Seat}
-use Rattle.sheet.specs.Rows.{headerOf, nodeAt, edgeAt, edgeTable, nodeKey, nodeKeyAt}
-use Rattle.sheet.specs.Accepted.{WellFormed, Accepted}
+use Rattle.sheet.specs.Limits.{nodeWords, edgesFrom}
+use Rattle.sheet.specs.Rows.{headerOf, nodeAt, edgeAt, edgeOf, edgeTable, nodeKey, nodeKeyAt}
+use Rattle.sheet.specs.Accepted.{WellFormed, EdgeShaped, Accepted}
 use Rattle.sheet.specs.Named.{edgeRow}
 use Rattle.sheet.specs.Seats.{countsAt, seenFrom}
 use Rattle.sheet.proofs.Accepting.{or-false}
@@ -32,6 +33,7 @@ use Rattle.question.specs.Asked.{sideOf, seatFor, asked, badOffice}
 use Rattle.claim.specs.Listed.{rowOf, everySecond, hasSecond, framed, wayFrom, goesOn}
 use Rattle.question.specs.Checked.{AtSeat}
 use Rattle.sheet.proofs.Forming.{words-of}
+use Rattle.sheet.proofs.Reading.{row-under, node-room}
 use Rattle.question.proofs.Known.{side-grant, side-ban}
 
 -- ---- a relation is seen exactly if a row of the edge table is it
@@ -50,12 +52,12 @@ module _ (s t : List ℕ) (h : Header) (seat : Seat) (o : AtSeat s t h seat) (ki
   row-seen : (j : ℕ) → j < headerOf s .edges → rowOf s (edgeTable s) seat kind a b j ≡ true → seen ≡ true
   unfolding rowOf edgeRow
   row-seen j l e =
-      let r = and-right (eqb (edgeAt (edgeTable s) j .kind) kind) _ e in
-      let n = and-right (countsAt seat (edgeAt (edgeTable s) j)) _ r in
-      let u : edgeAt (edgeTable s) j .kind ≡ kind = eqb-true _ kind (and-left (eqb (edgeAt (edgeTable s) j .kind) kind) _ e) in
-      let x : nodeKeyAt s (edgeAt (edgeTable s) j .from) ≡ nodeKey a = same-eq _ _ (and-left (sameKey (nodeKeyAt s (edgeAt (edgeTable s) j .from)) (nodeKey a)) _ n) in
-      let y : nodeKeyAt s (edgeAt (edgeTable s) j .to) ≡ nodeKey b = same-eq _ _ (and-right (sameKey (nodeKeyAt s (edgeAt (edgeTable s) j .from)) (nodeKey a)) _ n) in
-      seen-edge s acc (seat .office) _ (record { row = j; inside = l; names = joined u x y; bears = and-left (countsAt seat (edgeAt (edgeTable s) j)) _ r })
+      let r = and-right (eqb (edgeOf s j .kind) kind) _ e in
+      let n = and-right (countsAt seat (edgeOf s j)) _ r in
+      let u : edgeOf s j .kind ≡ kind = eqb-true _ kind (and-left (eqb (edgeOf s j .kind) kind) _ e) in
+      let x : nodeKeyAt s (edgeOf s j .from) ≡ nodeKey a = same-eq _ _ (and-left (sameKey (nodeKeyAt s (edgeOf s j .from)) (nodeKey a)) _ n) in
+      let y : nodeKeyAt s (edgeOf s j .to) ≡ nodeKey b = same-eq _ _ (and-right (sameKey (nodeKeyAt s (edgeOf s j .from)) (nodeKey a)) _ n) in
+      seen-edge s acc (seat .office) _ (record { row = j; inside = l; names = joined u x y; bears = and-left (countsAt seat (edgeOf s j)) _ r })
     where
       joined : {i i′ : ℕ} {x x′ y y′ : Key} → i ≡ i′ → x ≡ x′ → y ≡ y′ → relation i x y ≡ relation i′ x′ y′
       joined e f g = rw (e, f, g) refl
@@ -64,9 +66,9 @@ module _ (s t : List ℕ) (h : Header) (seat : Seat) (o : AtSeat s t h seat) (ki
   unfolding rowOf edgeRow
   related-row e =
       let r = edge-seen s acc (seat .office) _ e in
-      let u : edgeAt (edgeTable s) (r .row) .kind ≡ kind = cc (r .names) in
-      let x : nodeKeyAt s (edgeAt (edgeTable s) (r .row) .from) ≡ nodeKey a = cc (r .names) in
-      let y : nodeKeyAt s (edgeAt (edgeTable s) (r .row) .to) ≡ nodeKey b = cc (r .names) in
+      let u : edgeOf s (r .row) .kind ≡ kind = cc (r .names) in
+      let x : nodeKeyAt s (edgeOf s (r .row) .from) ≡ nodeKey a = cc (r .names) in
+      let y : nodeKeyAt s (edgeOf s (r .row) .to) ≡ nodeKey b = cc (r .names) in
       (r .row, r .inside, both (eq-eqb _ kind u) (both (r .bears) (both (eq-same _ _ x) (eq-same _ _ y))))
 
   pub related-by : (j : ℕ) → j < h .edges → rowOf s t seat kind a b j ≡ true → true ≡ seen
@@ -83,19 +85,16 @@ module _ (s t : List ℕ) (h : Header) (seat : Seat) (o : AtSeat s t h seat) (ki
 
 -- ---- the test that the code makes at a row
 
-pub end-room : (s t : List ℕ) (h : Header) (j : ℕ) (e : Edge) → WellFormed s t h → j < h .edges → e ≡ edgeAt t j → (6 + 4 * e .from + 4 ≤ length s) × (6 + 4 * e .to + 4 ≤ length s)
+pub end-room : (s t : List ℕ) (h : Header) (j : ℕ) (e : Edge) → WellFormed s t h → j < h .edges → e ≡ edgeAt h t j → (edgesFrom (e .from) + nodeWords ≤ length s) × (edgesFrom (e .to) + nodeWords ≤ length s)
 end-room s t h j e w l q =
-    let p = subst (λ (x : Edge). (x .from < h .nodes) × (x .to < h .nodes)) (sym q) (w .edges .shaped j l .from, w .edges .shaped j l .to) in
-    let p0 = p .0 in
-    let p1 = p .1 in
-    let n = w .nodes .header .whole in
-    (omega arith, omega arith)
+    let p = subst (EdgeShaped h) (sym q) (w .edges .shaped j l) in
+    (node-room s t h w (e .from) (p .from), node-room s t h w (e .to) (p .to))
 
-module _ (s t : List ℕ) (seat : Seat) (kind : ℕ) (a b : Node) (j : ℕ) (e : Edge) (q : e ≡ edgeAt t j) (x : Node) (f : x ≡ nodeAt s (e .from)) where
+module _ (s t : List ℕ) (h : Header) (w : WellFormed s t h) (seat : Seat) (kind : ℕ) (a b : Node) (j : ℕ) (e : Edge) (q : e ≡ edgeAt h t j) (x : Node) (f : x ≡ nodeAt s (e .from)) where
   -- from the wanted identity or from another
   row-from : (u : Bool) → sameKey (nodeKey x) (nodeKey a) ≡ u → rowOf s t seat kind a b j ≡ (eqb (e .kind) kind && (countsAt seat e && (u && sameKey (nodeKeyAt s (e .to)) (nodeKey b))))
   unfolding rowOf
-  row-from u m = rw (← q, ← f, m) refl
+  row-from u m = let own : e ≡ edgeAt (headerOf s) t j = q ∙ row-under s t h w j in rw (← own, ← f, m) refl
 
   pub row-elsewhere : sameKey (nodeKey x) (nodeKey a) ≡ false → false ≡ rowOf s t seat kind a b j
   row-elsewhere m = sym (row-from false m ∙ none (eqb (e .kind) kind) (countsAt seat e))

@@ -12,13 +12,13 @@ use Rattle.tables.proofs.Keys.{one-row}
 use Rattle.tables.proofs.Tables.{marks-none, marks-named, rows-rise, rows-same}
 use Rattle.sheet.specs.declared.Header.{Header}
 use Rattle.sheet.specs.Found.{PlaceIs}
-use Rattle.combine.specs.declared.Part.{Part}
+use Rattle.sheet.specs.declared.Half.{Half}
 use Rattle.combine.specs.declared.Rule.{Rule}
 use Rattle.combine.specs.Combined.{Making, keys, IsTable, Combined, rowsKept}
 use Rattle.combine.specs.Rules.{makes, Sound}
-use Rattle.combine.specs.SheetTables.{Inputs, PartIs}
+use Rattle.combine.specs.Halves.{Inputs, HalfIs}
 use Rattle.combine.proofs.Combining.{combination}
-use Rattle.combine.proofs.Reading.{part-low, part-named}
+use Rattle.combine.proofs.Reading.{half-low, half-named}
 
 not-empty : (k : Key) → (k ≡ [] → ⊥) → belowKey [] k ≡ true
 not-empty [] h = absurd (h refl)
@@ -44,12 +44,12 @@ module _ (F : Making) (n : ℕ) (f : ℕ → Row) (m : ℕ) (g : ℕ → Row) (t
   pub combined-count : IsTable n f → IsTable m g → (k : ℕ) (h : ℕ → Row) → Combined F n f m g k h → k ≡ rowsKept F n f m g
   combined-count A B k h C = let U = combination F none n f A m g B in combined-one k (U .rows) h (U .row) C (U .combined) .0 ∙ U .count
 
--- of a part of two sheets
-pub part-one : (rule : Rule) (part : Part) (a : List ℕ) (h : Header) (b : List ℕ) (g : Header) → Inputs a h b g rule → (c : ℕ) → Sound (makes rule) (h .offices) (g .offices) c → (k k′ : ℕ) (row row′ : ℕ → Row) → PartIs rule part a h b g k row → PartIs rule part a h b g k′ row′
+-- of a half of two sheets
+pub half-one : (rule : Rule) (half : Half) (a : List ℕ) (h : Header) (b : List ℕ) (g : Header) → Inputs a h b g rule → (c : ℕ) → Sound (makes rule) (h .offices) (g .offices) c → (k k′ : ℕ) (row row′ : ℕ → Row) → HalfIs rule half a h b g k row → HalfIs rule half a h b g k′ row′
     → (k ≡ k′) × ((u : ℕ) → u < k → row u ≡ row′ u)
-part-one rule part a h b g I c S k k′ row row′ =
-    combined-one (makes rule) _ _ _ _ (2 ^ c) (S .none) (λ key. S .fits _ _ (part-low a h (I .first) part key) (part-low b g (I .second) part key))
-    (λ i l. part-named part a i) (λ j l. part-named part b j) k k′ row row′
+half-one rule half a h b g I c S k k′ row row′ =
+    combined-one (makes rule) _ _ _ _ (2 ^ c) (S .none) (λ key. S .fits _ _ (half-low a h (I .first) half key) (half-low b g (I .second) half key))
+    (λ i l. half-named half a i) (λ j l. half-named half b j) k k′ row row′
 
 -- a place among rows is the place among the same rows
 pub place-alike : (row row′ : ℕ → Row) (n : ℕ) (key : Key) (i : ℕ) → ((u : ℕ) → u < n → row u ≡ row′ u) → PlaceIs (keys row) n key i → PlaceIs (keys row′) n key i

@@ -1,13 +1,12 @@
 -- Header, combined node rows and combined edge rows, one behind the other, are an accepted sheet, and its tables are the combined ones: what is asked of a row is what held where it comes from, and a row that stays has ends that stay.
 -- Assumes nothing.
-use Prim.Native.Nat.{ℕ, _+_, _*_, _^_, _<_, _≤_}
+use Prim.Native.Nat.{ℕ, _+_, _^_, _<_, _≤_}
 use mathlib.Core.Path.{_≡_, refl, sym, ap, ap₂, subst, _∙_}
 use mathlib.Core.Bool.{true, true≢false}
-use mathlib.Core.List.{List, [], _++_}
+use mathlib.Core.List.{List, []}
 use native.Mathlib.Omega.{arith}
 use native.Mathlib.Decide.{decLt}
-use lib.ListN.{length, getD, drop, length-append, List·getD-append}
-use lib.Seq.{getD-append-add, drop-append-add}
+use lib.ListN.{length}
 use Rattle.tables.specs.Key.{Key, identity, relation, belowKey}
 use Rattle.tables.specs.Marks.{within}
 use Rattle.tables.specs.Table.{Row, rowsOf, marksAt}
@@ -16,32 +15,33 @@ use Rattle.tables.proofs.Marks.{within-none, within-some}
 use Rattle.tables.proofs.Tables.{marks-named, row-of, rows-alike}
 use Rattle.sheet.specs.declared.Header.{Header}
 use Rattle.sheet.specs.declared.Node.{Node}
+use Rattle.sheet.specs.declared.Cells.{Cells}
 use Rattle.sheet.specs.declared.Edge.{Edge}
-use Rattle.sheet.specs.Limits.{maxOffices, maxNodes, maxEdges, headerWords, edgesFrom, sheetWords}
-use Rattle.sheet.specs.Rows.{word, headerOf, nodeAt, edgeAt, edgeTable, nodeKey, nodeKeyAt, edgeKeyAt}
-use Rattle.sheet.specs.Accepted.{HeaderFits, NodeFits, EdgeShaped, EdgeFits, RowsRise, Accepted}
+use Rattle.sheet.specs.Limits.{maxOffices, maxNodes, maxEdges, edgePlace}
+use Rattle.sheet.specs.Rows.{headerOf, nodeAt, edgeAt, edgeOf, edgeTable, nodeKey, nodeKeyAt, edgeKeyAt, cellsIn, cellsAt}
+use Rattle.sheet.specs.Accepted.{NodeFits, EdgeShaped, EdgeFits, RowsRise, Accepted}
 use Rattle.sheet.specs.Named.{nodeRow, edgeRow, tablesOf}
 use Rattle.sheet.specs.Found.{PlaceIs}
+use Rattle.sheet.proofs.Built.{built, built-header, built-fits, built-table, built-node, built-edge}
 use Rattle.sheet.proofs.Naming.{lower-named}
 use Rattle.sheet.proofs.Places.{stands-there}
-use Rattle.sheet.specs.Stored.{headerSix}
-use Rattle.combine.specs.declared.Part.the-variants.{Nodes, Edges}
+use Rattle.sheet.specs.declared.Half.the-variants.{Nodes, Edges}
 use Rattle.combine.specs.Combined.{Making, keys, Combined, PlacesIn}
 use Rattle.combine.specs.Rules.{Rules}
-use Rattle.combine.specs.SheetTables.{through, spelled, Spelled, by-first, by-second, Words}
+use Rattle.combine.specs.Halves.{through, spelled, Spelled, by-first, by-second, Words}
 use Rattle.combine.specs.Sheets.{IsCombined}
-use Rattle.combine.proofs.Reading.{part-own, part-low}
+use Rattle.combine.proofs.Reading.{half-own, half-low}
 
 -- ---- the marks of an edge lie within those of its ends, at every key
 
 module _ (s : List ℕ) (v : Accepted s) where
   node-marks : (i : ℕ) (k : Key) → i < headerOf s .nodes → nodeKeyAt s i ≡ k → marksAt (rowsOf (headerOf s .nodes) (nodeRow s)) k ≡ nodeAt s i .offices
   unfolding nodeRow
-  node-marks i k l e = marks-named _ (nodeRow s) (part-own s (headerOf s) v Nodes) k i l e
+  node-marks i k l e = marks-named _ (nodeRow s) (half-own s (headerOf s) v Nodes) k i l e
 
   -- one law for both ends: `end` picks one, whose identity a row's key K shows as k
   end-within : (end : Edge → ℕ) (K k : Key) → ((x : ℕ) → x < headerOf s .edges → edgeRow s (edgeTable s) x .key ≡ K
-      → (end (edgeAt (edgeTable s) x) < headerOf s .nodes) × (nodeKeyAt s (end (edgeAt (edgeTable s) x)) ≡ k) × (within (edgeAt (edgeTable s) x .offices) (nodeAt s (end (edgeAt (edgeTable s) x)) .offices) ≡ true))
+      → (end (edgeOf s x) < headerOf s .nodes) × (nodeKeyAt s (end (edgeOf s x)) ≡ k) × (within (edgeOf s x .offices) (nodeAt s (end (edgeOf s x)) .offices) ≡ true))
       → within (marksAt (rowsOf (headerOf s .edges) (edgeRow s (edgeTable s))) K) (marksAt (rowsOf (headerOf s .nodes) (nodeRow s)) k) ≡ true
   unfolding edgeRow
   end-within end K k at = go (decLt 0 (marksAt (rowsOf (headerOf s .edges) (edgeRow s (edgeTable s))) K))
@@ -51,7 +51,7 @@ module _ (s : List ℕ) (v : Accepted s) where
       go (yes l) =
           let r = row-of _ (edgeRow s (edgeTable s)) K l in
           let e = at (r .row) (r .inside) (r .names) in
-          ap₂ within (marks-named _ (edgeRow s (edgeTable s)) (part-own s (headerOf s) v Edges) K (r .row) (r .inside) (r .names)) (node-marks _ _ (e .0) (e .1)) ∙ e .2
+          ap₂ within (marks-named _ (edgeRow s (edgeTable s)) (half-own s (headerOf s) v Edges) K (r .row) (r .inside) (r .names)) (node-marks _ _ (e .0) (e .1)) ∙ e .2
 
   module _ (kind t n u t′ n′ u′ : ℕ) where
     from-within : within (marksAt (rowsOf (headerOf s .edges) (edgeRow s (edgeTable s))) (relation kind (identity t n u) (identity t′ n′ u′))) (marksAt (rowsOf (headerOf s .nodes) (nodeRow s)) (identity t n u)) ≡ true
@@ -62,81 +62,34 @@ module _ (s : List ℕ) (v : Accepted s) where
     unfolding edgeRow
     to-within = end-within (λ e. e .to) _ _ (λ x l e. (v .edges .shaped x l .to, cc e, v .edges .fit x l .in-to))
 
--- ---- the words, read
-
-module _ (c n e : ℕ) (wn we : List ℕ) (ln : length wn ≡ 4 * n) (le : length we ≡ 4 * e) where
-  abbrev pub sheet : List ℕ
-  sheet = headerSix c n e ++ wn ++ we
-
-  six : length (headerSix c n e) ≡ 6
-  unfolding headerSix
-  six = refl
-
-  header-long : length (headerSix c n e ++ wn) ≡ 6 + 4 * n
-  header-long = length-append (headerSix c n e) wn ∙ omega (arith, six)
-
-  pub sheet-long : length sheet ≡ sheetWords n e
-  sheet-long = length-append (headerSix c n e ++ wn) we ∙ omega (arith, header-long)
-
-  pub sheet-header : headerOf sheet ≡ record { form = 1; offices = c; nodes = n; edges = e; nodeoffset = headerWords; edgeoffset = edgesFrom n }
-  unfolding headerOf headerSix
-  sheet-header = refl
-
-  sheet-fits : 1 ≤ c → c ≤ maxOffices → n ≤ maxNodes → e ≤ maxEdges → HeaderFits (headerOf sheet) (length sheet)
-  sheet-fits low high a b =
-      subst (λ (h : Header). HeaderFits h (length sheet)) (sym sheet-header)
-      (record { form = refl; offices-low = low; offices-high = high; nodes = a; edges = b; nodes-from = refl; edges-from = refl; whole = sheet-long })
-
-  sheet-table : edgeTable sheet ≡ we
-  sheet-table =
-      let z : 6 + 4 * n ≡ length (headerSix c n e ++ wn) + 0 = omega (arith, header-long) in
-      ap (λ (h : Header). drop (h .edgeoffset) sheet) sheet-header ∙ ap (λ (x : ℕ). drop x sheet) z ∙ drop-append-add (headerSix c n e ++ wn) we 0
-
-  node-word : (i : ℕ) → i < 4 * n → word sheet (6 + i) ≡ word wn i
-  node-word i l =
-      List·getD-append (headerSix c n e ++ wn) we 0 (6 + i) (omega (arith, header-long))
-      ∙ ap (λ (x : ℕ). getD (headerSix c n e ++ wn) (x + i) 0) (sym six) ∙ getD-append-add (headerSix c n e) wn i 0
-
-  -- a node row's words stand where an edge row's do
-  sheet-node : (u : ℕ) → u < n → nodeAt sheet u ≡ record { class = edgeAt wn u .kind; number = edgeAt wn u .from; variant = edgeAt wn u .to; offices = edgeAt wn u .offices }
-  unfolding nodeAt edgeAt
-  sheet-node u l =
-      let at : (x : ℕ) → x < 4 → word sheet (6 + 4 * u + x) ≡ word wn (4 * u + x) =
-      (λ x d. let z : 6 + 4 * u + x ≡ 6 + (4 * u + x) = omega arith in ap (word sheet) z ∙ node-word (4 * u + x) (omega arith)) in
-      let a = node-word (4 * u) (omega arith) in
-      let b = at 1 (omega arith) in
-      let d = at 2 (omega arith) in
-      let f = at 3 (omega arith) in
-      λ i. record { class = a i; number = b i; variant = d i; offices = f i }
-
 -- the key of an edge row, its ends' words written out
 edge-named : (s : List ℕ) (x : ℕ) (k : Key) → edgeRow s (edgeTable s) x .key ≡ k
-    → relation (edgeAt (edgeTable s) x .kind) (nodeKeyAt s (edgeAt (edgeTable s) x .from)) (nodeKeyAt s (edgeAt (edgeTable s) x .to)) ≡ k
+    → relation (edgeOf s x .kind) (nodeKeyAt s (edgeOf s x .from)) (nodeKeyAt s (edgeOf s x .to)) ≡ k
 unfolding edgeRow
 edge-named s x k e = e
 
 -- ---- the sheet
 
 module _ (N E : Making) (c : ℕ) (a b : List ℕ) (va : Accepted a) (vb : Accepted b) (R : Rules N E (headerOf a .offices) (headerOf b .offices) c) (low : 1 ≤ c) (high : c ≤ maxOffices)
-    (n e : ℕ) (few-nodes : n ≤ maxNodes) (few-edges : e ≤ maxEdges) (wn we ma mb : List ℕ) (rowN rowE : ℕ → Row)
+    (n e : ℕ) (few-nodes : n ≤ maxNodes) (few-edges : e ≤ maxEdges (headerOf a .form)) (wn we ma mb : List ℕ) (rowN rowE : ℕ → Row)
     (CN : Combined N (headerOf a .nodes) (nodeRow a) (headerOf b .nodes) (nodeRow b) n rowN)
     (CE : Combined E (headerOf a .edges) (edgeRow a (edgeTable a)) (headerOf b .edges) (edgeRow b (edgeTable b)) e rowE)
     (SN : Words Nodes a (headerOf a) b (headerOf b) [] [] n rowN wn) (SE : Words Edges a (headerOf a) b (headerOf b) ma mb e rowE we)
     (LA : PlacesIn (nodeRow a) (headerOf a .nodes) (through ma) n rowN) (LB : PlacesIn (nodeRow b) (headerOf b .nodes) (through mb) n rowN) where
   abbrev t : List ℕ
-  t = sheet c n e wn we (SN .long) (SE .long)
+  t = built (headerOf a .form) c n e wn we (SN .long) (SE .long)
 
   t-nodes : headerOf t .nodes ≡ n
-  t-nodes = ap (λ (h : Header). h .nodes) (sheet-header c n e wn we (SN .long) (SE .long))
+  t-nodes = ap (λ (h : Header). h .nodes) (built-header (headerOf a .form) c n e wn we (SN .long) (SE .long))
 
   t-edges : headerOf t .edges ≡ e
-  t-edges = ap (λ (h : Header). h .edges) (sheet-header c n e wn we (SN .long) (SE .long))
+  t-edges = ap (λ (h : Header). h .edges) (built-header (headerOf a .form) c n e wn we (SN .long) (SE .long))
 
   t-offices : headerOf t .offices ≡ c
-  t-offices = ap (λ (h : Header). h .offices) (sheet-header c n e wn we (SN .long) (SE .long))
+  t-offices = ap (λ (h : Header). h .offices) (built-header (headerOf a .form) c n e wn we (SN .long) (SE .long))
 
   t-table : edgeTable t ≡ we
-  t-table = sheet-table c n e wn we (SN .long) (SE .long)
+  t-table = built-table (headerOf a .form) c n e wn we (SN .long) (SE .long)
 
   -- ---- node rows
 
@@ -153,9 +106,9 @@ module _ (N E : Making) (c : ℕ) (a b : List ℕ) (va : Accepted a) (vb : Accep
   unfolding spelled through nodeRow
   node-from u l = go (SN .each u l)
     where
-      go : Spelled Nodes a (headerOf a) b (headerOf b) [] [] (rowN u) (edgeAt wn u) → NodeFrom u
-      go (by-first x d k q) = record { from-sheet = a; checked = va; place = x; inside = d; is = sheet-node c n e wn we (SN .long) (SE .long) u l ∙ rw q refl; key = k }
-      go (by-second y d k q) = record { from-sheet = b; checked = vb; place = y; inside = d; is = sheet-node c n e wn we (SN .long) (SE .long) u l ∙ rw q refl; key = k }
+      go : Spelled Nodes a (headerOf a) b (headerOf b) [] [] (rowN u) (cellsIn Nodes (headerOf a .form) wn u) → NodeFrom u
+      go (by-first x d k q) = record { from-sheet = a; checked = va; place = x; inside = d; is = built-node (headerOf a .form) c n e wn we (SN .long) (SE .long) u l ∙ rw q refl; key = k }
+      go (by-second y d k q) = record { from-sheet = b; checked = vb; place = y; inside = d; is = built-node (headerOf a .form) c n e wn we (SN .long) (SE .long) u l ∙ rw q refl; key = k }
 
   node-key : (u : ℕ) → u < n → nodeKeyAt t u ≡ rowN u .key
   node-key u l = let f = node-from u l in ap nodeKey (f .is) ∙ f .key
@@ -165,10 +118,10 @@ module _ (N E : Making) (c : ℕ) (a b : List ℕ) (va : Accepted a) (vb : Accep
   node-row u l = let k = node-key u l in let m : nodeAt t u .offices ≡ rowN u .marks = ap (λ (r : Node). r .offices) (node-from u l .is) in λ i. record { key = k i; marks = m i }
 
   nodes-made : (k : Key) → marksAt (rowsOf n rowN) k < 2 ^ c
-  nodes-made k = subst (λ (x : ℕ). x < 2 ^ c) (sym (CN .marks k)) (R .nodes .fits _ _ (part-low a (headerOf a) va Nodes k) (part-low b (headerOf b) vb Nodes k))
+  nodes-made k = subst (λ (x : ℕ). x < 2 ^ c) (sym (CN .marks k)) (R .nodes .fits _ _ (half-low a (headerOf a) va Nodes k) (half-low b (headerOf b) vb Nodes k))
 
   edges-made : (k : Key) → marksAt (rowsOf e rowE) k < 2 ^ c
-  edges-made k = subst (λ (x : ℕ). x < 2 ^ c) (sym (CE .marks k)) (R .edges .fits _ _ (part-low a (headerOf a) va Edges k) (part-low b (headerOf b) vb Edges k))
+  edges-made k = subst (λ (x : ℕ). x < 2 ^ c) (sym (CE .marks k)) (R .edges .fits _ _ (half-low a (headerOf a) va Edges k) (half-low b (headerOf b) vb Edges k))
 
   -- a row's marks are those at its key
   node-here : (u : ℕ) → u < n → marksAt (rowsOf n rowN) (rowN u .key) ≡ rowN u .marks
@@ -207,11 +160,11 @@ module _ (N E : Making) (c : ℕ) (a b : List ℕ) (va : Accepted a) (vb : Accep
     checked : Accepted from-sheet
     place : ℕ
     inside : place < headerOf from-sheet .edges
-    kind : edgeAt we v .kind ≡ edgeAt (edgeTable from-sheet) place .kind
-    marks : edgeAt we v .offices ≡ rowE v .marks
+    kind : edgeAt (headerOf t) we v .kind ≡ edgeOf from-sheet place .kind
+    marks : edgeAt (headerOf t) we v .offices ≡ rowE v .marks
     key : edgeRow from-sheet (edgeTable from-sheet) place .key ≡ rowE v .key
-    from : EndStands v (edgeAt we v .from) (nodeKeyAt from-sheet (edgeAt (edgeTable from-sheet) place .from))
-    to : EndStands v (edgeAt we v .to) (nodeKeyAt from-sheet (edgeAt (edgeTable from-sheet) place .to))
+    from : EndStands v (edgeAt (headerOf t) we v .from) (nodeKeyAt from-sheet (edgeOf from-sheet place .from))
+    to : EndStands v (edgeAt (headerOf t) we v .to) (nodeKeyAt from-sheet (edgeOf from-sheet place .to))
 
   -- an end's marks bear the row's, so it stays
   end : (v x : ℕ) (k : Key) (map : ℕ → ℕ) (s : List ℕ) (p : ℕ) → v < e → within (E (marksAt (rowsOf (headerOf a .edges) (edgeRow a (edgeTable a))) (rowE v .key)) (marksAt (rowsOf (headerOf b .edges) (edgeRow b (edgeTable b))) (rowE v .key)))
@@ -235,16 +188,18 @@ module _ (N E : Making) (c : ℕ) (a b : List ℕ) (va : Accepted a) (vb : Accep
       made-from : (kind t n u t′ n′ u′ : ℕ) → relation kind (identity t n u) (identity t′ n′ u′) ≡ rowE v .key
           → within (E (marksAt (rowsOf (headerOf a .edges) (edgeRow a (edgeTable a))) (rowE v .key)) (marksAt (rowsOf (headerOf b .edges) (edgeRow b (edgeTable b))) (rowE v .key)))
           (N (marksAt (rowsOf (headerOf a .nodes) (nodeRow a)) (identity t n u)) (marksAt (rowsOf (headerOf b .nodes) (nodeRow b)) (identity t n u))) ≡ true
-      made-from kind t n u t′ n′ u′ q = rw (← q) (R .inside _ _ _ _ (part-low a (headerOf a) va Edges _) (part-low a (headerOf a) va Nodes _) (part-low b (headerOf b) vb Edges _) (part-low b (headerOf b) vb Nodes _) (from-within a va kind t n u t′ n′ u′) (from-within b vb kind t n u t′ n′ u′))
+      made-from kind t n u t′ n′ u′ q = rw (← q) (R .inside _ _ _ _ (half-low a (headerOf a) va Edges _) (half-low a (headerOf a) va Nodes _) (half-low b (headerOf b) vb Edges _) (half-low b (headerOf b) vb Nodes _) (from-within a va kind t n u t′ n′ u′) (from-within b vb kind t n u t′ n′ u′))
 
       made-to : (kind t n u t′ n′ u′ : ℕ) → relation kind (identity t n u) (identity t′ n′ u′) ≡ rowE v .key
           → within (E (marksAt (rowsOf (headerOf a .edges) (edgeRow a (edgeTable a))) (rowE v .key)) (marksAt (rowsOf (headerOf b .edges) (edgeRow b (edgeTable b))) (rowE v .key)))
           (N (marksAt (rowsOf (headerOf a .nodes) (nodeRow a)) (identity t′ n′ u′)) (marksAt (rowsOf (headerOf b .nodes) (nodeRow b)) (identity t′ n′ u′))) ≡ true
-      made-to kind t n u t′ n′ u′ q = rw (← q) (R .inside _ _ _ _ (part-low a (headerOf a) va Edges _) (part-low a (headerOf a) va Nodes _) (part-low b (headerOf b) vb Edges _) (part-low b (headerOf b) vb Nodes _) (to-within a va kind t n u t′ n′ u′) (to-within b vb kind t n u t′ n′ u′))
+      made-to kind t n u t′ n′ u′ q = rw (← q) (R .inside _ _ _ _ (half-low a (headerOf a) va Edges _) (half-low a (headerOf a) va Nodes _) (half-low b (headerOf b) vb Edges _) (half-low b (headerOf b) vb Nodes _) (to-within a va kind t n u t′ n′ u′) (to-within b vb kind t n u t′ n′ u′))
 
       via : (s : List ℕ) (vs : Accepted s) (map : List ℕ) → PlacesIn (nodeRow s) (headerOf s .nodes) (through map) n rowN → (x : ℕ) → x < headerOf s .edges → edgeRow s (edgeTable s) x .key ≡ rowE v .key
-          → edgeAt we v ≡ record { kind = edgeAt (edgeTable s) x .kind; from = through map (edgeAt (edgeTable s) x .from); to = through map (edgeAt (edgeTable s) x .to); offices = rowE v .marks } → EdgeFrom v
-      via s vs map L x d k q =
+          → cellsIn Edges (headerOf a .form) we v ≡ spelled map (cellsAt Edges s x) (rowE v .marks) → EdgeFrom v
+      via s vs map L x d k at =
+          let q : edgeAt (headerOf t) we v ≡ record { kind = edgeOf s x .kind; from = through map (edgeOf s x .from); to = through map (edgeOf s x .to); offices = rowE v .marks } =
+          built-edge (headerOf a .form) c n e wn we (SN .long) (SE .long) v ∙ ap (λ (z : Cells). record { kind = z .first; from = z .second; to = z .third; offices = z .offices }) at in
           let p = vs .edges .shaped x d in
           let y = edge-named s x (rowE v .key) k in
           record {
@@ -259,7 +214,7 @@ module _ (N E : Making) (c : ℕ) (a b : List ℕ) (va : Accepted a) (vb : Accep
             to = end v _ _ (through map) s _ l (made-to _ _ _ _ _ _ _ y) L (p .to) refl (ap (λ (z : Edge). z .to) q);
           }
 
-      go : Spelled Edges a (headerOf a) b (headerOf b) ma mb (rowE v) (edgeAt we v) → EdgeFrom v
+      go : Spelled Edges a (headerOf a) b (headerOf b) ma mb (rowE v) (cellsIn Edges (headerOf a .form) we v) → EdgeFrom v
       go (by-first x d k q) = via a va ma LA x d k q
       go (by-second y d k q) = via b vb mb LB y d k q
 
@@ -270,25 +225,25 @@ module _ (N E : Making) (c : ℕ) (a b : List ℕ) (va : Accepted a) (vb : Accep
       let kind = f .kind in
       let from = f .from .named in
       let to = f .to .named in
-      let k : relation (edgeAt we v .kind) (nodeKeyAt t (edgeAt we v .from)) (nodeKeyAt t (edgeAt we v .to)) ≡ rowE v .key = (λ i. relation (kind i) (from i) (to i)) ∙ f .key in
+      let k : relation (edgeAt (headerOf t) we v .kind) (nodeKeyAt t (edgeAt (headerOf t) we v .from)) (nodeKeyAt t (edgeAt (headerOf t) we v .to)) ≡ rowE v .key = (λ i. relation (kind i) (from i) (to i)) ∙ f .key in
       let m = f .marks in
       λ i. record { key = k i; marks = m i }
 
-  edge-shaped : (v : ℕ) → v < e → EdgeShaped (headerOf t) (edgeAt we v)
+  edge-shaped : (v : ℕ) → v < e → EdgeShaped (headerOf t) (edgeAt (headerOf t) we v)
   edge-shaped v l =
       let f = edge-from v l in
       let p = f .checked .edges .shaped (f .place) (f .inside) in
       record { kind-low = omega (arith, f .kind, p .kind-low); kind-high = omega (arith, f .kind, p .kind-high); from = omega (arith, t-nodes, f .from .stands); to = omega (arith, t-nodes, f .to .stands) }
 
-  edge-fit : (v : ℕ) → v < e → EdgeFits (headerOf t) (edgeAt we v) (nodeAt t (edgeAt we v .from)) (nodeAt t (edgeAt we v .to))
+  edge-fit : (v : ℕ) → v < e → EdgeFits (headerOf t) (edgeAt (headerOf t) we v) (nodeAt t (edgeAt (headerOf t) we v .from)) (nodeAt t (edgeAt (headerOf t) we v .to))
   edge-fit v l =
       let f = edge-from v l in
       let p = f .checked .edges .shaped (f .place) (f .inside) in
       let g = f .checked .edges .fit (f .place) (f .inside) in
       let x = f .from .named in
       let y = f .to .named in
-      let cx : nodeAt t (edgeAt we v .from) .class ≡ nodeAt (f .from-sheet) (edgeAt (edgeTable (f .from-sheet)) (f .place) .from) .class = cc in
-      let cy : nodeAt t (edgeAt we v .to) .class ≡ nodeAt (f .from-sheet) (edgeAt (edgeTable (f .from-sheet)) (f .place) .to) .class = cc in
+      let cx : nodeAt t (edgeAt (headerOf t) we v .from) .class ≡ nodeAt (f .from-sheet) (edgeOf (f .from-sheet) (f .place) .from) .class = cc in
+      let cy : nodeAt t (edgeAt (headerOf t) we v .to) .class ≡ nodeAt (f .from-sheet) (edgeOf (f .from-sheet) (f .place) .to) .class = cc in
       record {
         ends = rw (f .kind, cx, cy) (g .ends);
         apart = λ q d. g .apart (sym (f .kind) ∙ q) (one-row (nodeKeyAt (f .from-sheet)) (headerOf (f .from-sheet) .nodes) (f .checked .nodes .rise) _ _ (p .from) (p .to) (sym x ∙ ap (nodeKeyAt t) d ∙ y));
@@ -298,9 +253,9 @@ module _ (N E : Making) (c : ℕ) (a b : List ℕ) (va : Accepted a) (vb : Accep
       }
 
   -- rows that rise by what they name rise by row numbers
-  laid-edges-rise : RowsRise (edgeKeyAt we) e
+  laid-edges-rise : RowsRise (edgeKeyAt (headerOf t) we) e
   unfolding edgeRow
-  laid-edges-rise v l = go (lies (edgeKeyAt we v) (edgeKeyAt we (v + 1)))
+  laid-edges-rise v l = go (lies (edgeKeyAt (headerOf t) we v) (edgeKeyAt (headerOf t) we (v + 1)))
     where
       up : belowKey (edgeRow t we v .key) (edgeRow t we (v + 1) .key) ≡ true
       up = ap₂ (λ (x y : Row). belowKey (x .key) (y .key)) (edge-row v (omega arith)) (edge-row (v + 1) l) ∙ CE .table .up v l
@@ -311,15 +266,15 @@ module _ (N E : Making) (c : ℕ) (a b : List ℕ) (va : Accepted a) (vb : Accep
       two : EdgeFrom (v + 1)
       two = edge-from (v + 1) l
 
-      go : Lies (edgeKeyAt we v) (edgeKeyAt we (v + 1)) → belowKey (edgeKeyAt we v) (edgeKeyAt we (v + 1)) ≡ true
+      go : Lies (edgeKeyAt (headerOf t) we v) (edgeKeyAt (headerOf t) we (v + 1)) → belowKey (edgeKeyAt (headerOf t) we v) (edgeKeyAt (headerOf t) we (v + 1)) ≡ true
       go (lower u s w) = u
       go (equal q) =
-          let kind : edgeAt we v .kind ≡ edgeAt we (v + 1) .kind = cc in
-          let from : edgeAt we v .from ≡ edgeAt we (v + 1) .from = cc in
-          let to : edgeAt we v .to ≡ edgeAt we (v + 1) .to = cc in
+          let kind : edgeAt (headerOf t) we v .kind ≡ edgeAt (headerOf t) we (v + 1) .kind = cc in
+          let from : edgeAt (headerOf t) we v .from ≡ edgeAt (headerOf t) we (v + 1) .from = cc in
+          let to : edgeAt (headerOf t) we v .to ≡ edgeAt (headerOf t) we (v + 1) .to = cc in
           absurd (below-apart (edgeRow t we v .key) (edgeRow t we (v + 1) .key) up (λ i. relation (kind i) (nodeKeyAt t (from i)) (nodeKeyAt t (to i))))
       go (higher u s w) =
-          absurd (true≢false (sym (lower-named t n laid-nodes-rise (edgeAt we (v + 1)) (edgeAt we v) (two .from .stands) (one .from .stands) (two .to .stands) (one .to .stands) u)
+          absurd (true≢false (sym (lower-named t n laid-nodes-rise (edgeAt (headerOf t) we (v + 1)) (edgeAt (headerOf t) we v) (two .from .stands) (one .from .stands) (two .to .stands) (one .to .stands) u)
           ∙ below-asym (edgeRow t we v .key) (edgeRow t we (v + 1) .key) up))
 
   -- ---- all of it
@@ -329,9 +284,9 @@ module _ (N E : Making) (c : ℕ) (a b : List ℕ) (va : Accepted a) (vb : Accep
       record {
         head = refl;
         table = refl;
-        nodes = record { header = sheet-fits c n e wn we (SN .long) (SE .long) low high few-nodes few-edges; fit = λ u l. node-fit u (omega (arith, t-nodes)); rise = λ u l. laid-nodes-rise u (omega (arith, t-nodes)) };
+        nodes = record { header = built-fits (headerOf a .form) c n e wn we (SN .long) (SE .long) (va .nodes .header .form) low high few-nodes few-edges; fit = λ u l. node-fit u (omega (arith, t-nodes)); rise = λ u l. laid-nodes-rise u (omega (arith, t-nodes)) };
         edges = rw (t-table) (record {
-          room = omega (arith, SE .long, t-edges);
+          room = omega (arith, SE .long, ap (λ (h : Header). edgePlace (h .form) (h .edges)) (built-header (headerOf a .form) c n e wn we (SN .long) (SE .long)));
           shaped = λ v l. edge-shaped v (omega (arith, t-edges));
           fit = λ v l. edge-fit v (omega (arith, t-edges));
           rise = λ v l. laid-edges-rise v (omega (arith, t-edges));

@@ -1,12 +1,12 @@
 -- What a sheet that passed the check has room for, and its rows as tables.
 -- Assumes nothing.
-use Prim.Native.Nat.{ℕ, zero, suc, _+_, _*_, _^_, _<_, _≤_}
+use Prim.Native.Nat.{ℕ, zero, suc, _+_, _^_, _<_, _≤_}
 use mathlib.Core.Path.{_≡_, refl, sym, ap, subst, _∙_}
-use mathlib.Core.Bool.{Bool, true, false, true≢false, cond, _&&_, _||_}
+use mathlib.Core.Bool.{Bool, true, false, true≢false, cond}
 use mathlib.Core.List.{List, [], _∷_}
 use native.Mathlib.Omega.{arith}
 use native.Mathlib.Decide.{decLt}
-use lib.Dec.{ltb, eqb}
+use lib.Dec.{ltb}
 use lib.ListN.{length, getD, set, List·getD-eq-default}
 use lib.Pow.{pow-pos}
 use lib.Seq.{sets, set-out}
@@ -16,100 +16,66 @@ use Rattle.tables.specs.Key.{Key, belowKey}
 use Rattle.tables.proofs.Keys.{Lies, lower, equal, higher, lies, one-row}
 use Rattle.tables.specs.Table.{Row, rowsOf, marksAt}
 use Rattle.tables.proofs.Tables.{marks-low}
-use Rattle.sheet.specs.declared.Edge.{Edge}
-use Rattle.sheet.specs.declared.Node.{Node}
+use Rattle.sheet.specs.declared.Cells.{Cells}
 use Rattle.sheet.specs.declared.Header.{Header}
-use Rattle.sheet.specs.Rows.{nodeAt, edgeAt, edgeTable, nodeKey, nodeKeyAt}
-use Rattle.sheet.specs.Named.{nodeRow, edgeRow}
-use Rattle.sheet.specs.Accepted.{WellFormed, Accepted, RowsRise}
+use Rattle.sheet.specs.Rows.{headerOf, edgeTable, nodeKeyAt, countIn, rowPlace, cellsAt}
+use Rattle.sheet.specs.Named.{nodeRow, edgeRow, rowAt}
+use Rattle.sheet.specs.Accepted.{WellFormed, Accepted}
+use Rattle.sheet.proofs.Forming.{words-of}
 use Rattle.sheet.proofs.Naming.{edges-up}
-use Rattle.combine.specs.declared.Part.{Part}
-use Rattle.combine.specs.declared.Part.the-variants.{Nodes, Edges}
-use Rattle.sheet.specs.Stored.{edgeFour}
+use Rattle.sheet.specs.declared.Half.{Half}
+use Rattle.sheet.specs.declared.Half.the-variants.{Nodes, Edges}
+use Rattle.sheet.specs.Stored.{stored}
 use Rattle.combine.specs.declared.Passed.{Passed}
 use Rattle.combine.specs.Combined.{keys, IsTable, TableStep, takes, leaves, given}
-use Rattle.combine.specs.SheetTables.{countIn, rowAt, wordsAt, through, spelled, Moves, noted, storedAt, takenWords}
+use Rattle.combine.specs.Halves.{through, spelled, Moves, noted, storedAt, takenCells}
 use Rattle.combine.proofs.Combining.{given-taken, given-left}
 
+module _ (s : List ℕ) (v : Accepted s) where
+  own-table : (half : Half) → IsTable (countIn half (headerOf s)) (rowAt half s)
+  unfolding nodeRow edgeRow
+  own-table Nodes = record { up = λ i l. v .nodes .rise i l; some = λ i l. v .nodes .fit i l .marks .some }
+  own-table Edges = record { up = edges-up s v; some = λ j l. v .edges .fit j l .marks .some }
+
+  own-marks : (half : Half) (i : ℕ) → i < countIn half (headerOf s) → rowAt half s i .marks < 2 ^ headerOf s .offices
+  unfolding nodeRow edgeRow
+  own-marks Nodes i l = v .nodes .fit i l .marks .high
+  own-marks Edges i l = v .edges .fit i l .marks .high
+
+-- .. under the header that is handed on
 module _ (s : List ℕ) (h : Header) (w : WellFormed s (edgeTable s) h) where
-  pub node-room : (i : ℕ) → i < h .nodes → 6 + 4 * i + 4 ≤ length s
-  node-room i l = omega (arith, w .nodes .header .whole)
+  pub half-table : (half : Half) → IsTable (countIn half h) (rowAt half s)
+  half-table half = subst (λ (x : Header). IsTable (countIn half x) (rowAt half s)) (sym (w .head)) (own-table s (words-of s _ h w) half)
 
-  pub part-nodes : (part : Part) (i : ℕ) → part ≡ Nodes → i < countIn part h → i < h .nodes
-  part-nodes part i e l = subst (λ (p : Part). i < countIn p h) e l
+  pub half-marks : (half : Half) (i : ℕ) → i < countIn half h → rowAt half s i .marks < 2 ^ h .offices
+  half-marks half = subst (λ (x : Header). (i : ℕ) → i < countIn half x → rowAt half s i .marks < 2 ^ x .offices) (sym (w .head)) (own-marks s (words-of s _ h w) half)
 
-  pub part-edges : (part : Part) (i : ℕ) → part ≡ Edges → i < countIn part h → i < h .edges
-  part-edges part i e l = subst (λ (p : Part). i < countIn p h) e l
-
-  pub part-room : (part : Part) (i : ℕ) → part ≡ Nodes → i < countIn part h → 6 + 4 * i + 4 ≤ length s
-  part-room part i e l = node-room i (part-nodes part i e l)
-
-  -- the ends of an edge row are node rows
-  pub from-room : (j : ℕ) (e : Edge) → j < h .edges → e ≡ edgeAt (edgeTable s) j → 6 + 4 * e .from + 4 ≤ length s
-  from-room j e l q = node-room (e .from) (omega (arith, w .edges .shaped j l .from, ap (λ (x : Edge). x .from) q))
-
-  pub to-room : (j : ℕ) (e : Edge) → j < h .edges → e ≡ edgeAt (edgeTable s) j → 6 + 4 * e .to + 4 ≤ length s
-  to-room j e l q = node-room (e .to) (omega (arith, w .edges .shaped j l .to, ap (λ (x : Edge). x .to) q))
-
-  pub read-accepted : Accepted s
-  read-accepted = subst (λ (x : Header). WellFormed s (edgeTable s) x) (w .head) w
-
-  -- there are no more rows than a sheet has
-  pub few : (part : Part) → countIn part h ≤ 2048
-  few Nodes = omega (arith, w .nodes .header .nodes)
-  few Edges = w .nodes .header .edges
-
-  pub part-table : (part : Part) → IsTable (countIn part h) (rowAt part s)
-  unfolding nodeRow edgeRow
-  part-table Nodes = record { up = λ i l. w .nodes .rise i l; some = λ i l. w .nodes .fit i l .marks .some }
-  part-table Edges = record { up = rising; some = λ j l. w .edges .fit j l .marks .some }
-    where
-      rising : RowsRise (λ j. edgeRow s (edgeTable s) j .key) (h .edges)
-      rising = subst (λ (x : Header). RowsRise (λ j. edgeRow s (edgeTable s) j .key) (x .edges)) (sym (w .head)) (edges-up s read-accepted)
-
-  pub part-marks : (part : Part) (i : ℕ) → i < countIn part h → rowAt part s i .marks < 2 ^ h .offices
-  unfolding nodeRow edgeRow
-  part-marks Nodes i l = w .nodes .fit i l .marks .high
-  part-marks Edges i l = w .edges .fit i l .marks .high
-
-  pub part-own : (part : Part) (i j : ℕ) → i < countIn part h → j < countIn part h → rowAt part s i .key ≡ rowAt part s j .key → i ≡ j
-  part-own part = one-row (keys (rowAt part s)) (countIn part h) (part-table part .up)
+  pub half-own : (half : Half) (i j : ℕ) → i < countIn half h → j < countIn half h → rowAt half s i .key ≡ rowAt half s j .key → i ≡ j
+  half-own half = one-row (keys (rowAt half s)) (countIn half h) (half-table half .up)
 
   -- at every key
-  pub part-low : (part : Part) (key : Key) → marksAt (rowsOf (countIn part h) (rowAt part s)) key < 2 ^ h .offices
-  part-low part key = marks-low _ _ (rowAt part s) (part-own part) (pow-pos (h .offices)) (part-marks part) key
+  pub half-low : (half : Half) (key : Key) → marksAt (rowsOf (countIn half h) (rowAt half s)) key < 2 ^ h .offices
+  half-low half key = marks-low _ _ (rowAt half s) (half-own half) (pow-pos (h .offices)) (half-marks half) key
 
 -- no key is empty
-pub part-named : (part : Part) (s : List ℕ) (i : ℕ) → rowAt part s i .key ≡ [] → ⊥
+pub half-named : (half : Half) (s : List ℕ) (i : ℕ) → rowAt half s i .key ≡ [] → ⊥
 unfolding nodeRow edgeRow
-part-named Nodes s i e = let z : _≡_ {A = ℕ} 0 1 = cc in omega arith
-part-named Edges s i e = let z : _≡_ {A = ℕ} 0 1 = cc in omega arith
+half-named Nodes s i e = let z : _≡_ {A = ℕ} 0 1 = cc in omega arith
+half-named Edges s i e = let z : _≡_ {A = ℕ} 0 1 = cc in omega arith
 
 -- the words of a row have its marks
-pub words-marks : (part : Part) (s : List ℕ) (i : ℕ) → wordsAt part s i .offices ≡ rowAt part s i .marks
+pub words-marks : (half : Half) (s : List ℕ) (i : ℕ) → cellsAt half s i .offices ≡ rowAt half s i .marks
 unfolding nodeRow edgeRow
 words-marks Nodes s i = refl
 words-marks Edges s i = refl
 
-pub given-read : (part : Part) (s : List ℕ) (from to : ℕ) (e : Edge) → e ≡ wordsAt part s from → from < to → e .offices ≡ given (rowAt part s) from to
-given-read part s from to e q l = ap (λ (x : Edge). x .offices) q ∙ words-marks part s from ∙ sym (given-taken (rowAt part s) from to l)
-
--- a node row's words
-pub words-node : (part : Part) (s : List ℕ) (i : ℕ) (r : Node) → part ≡ Nodes → r ≡ nodeAt s i → record { kind = r .class; from = r .number; to = r .variant; offices = r .offices } ≡ wordsAt part s i
-words-node part s i r p q = ap (λ (x : Node). record { kind = x .class; from = x .number; to = x .variant; offices = x .offices }) q ∙ ap (λ (x : Part). wordsAt x s i) (sym p)
+pub given-read : (half : Half) (s : List ℕ) (from to : ℕ) (c : Cells) → c ≡ cellsAt half s from → from < to → c .offices ≡ given (rowAt half s) from to
+given-read half s from to c q l = ap (λ (x : Cells). x .offices) q ∙ words-marks half s from ∙ sym (given-taken (rowAt half s) from to l)
 
 -- comparing by what is named
-pub nodes-below : (part : Part) (a b : List ℕ) (i j : ℕ) (t : Bool) → part ≡ Nodes → t ≡ belowKey (nodeKeyAt a i) (nodeKeyAt b j) → t ≡ belowKey (rowAt part a i .key) (rowAt part b j .key)
+pub nodes-below : (half : Half) (a b : List ℕ) (i j : ℕ) (t : Bool) → half ≡ Nodes → t ≡ belowKey (nodeKeyAt a i) (nodeKeyAt b j) → t ≡ belowKey (rowAt half a i .key) (rowAt half b j .key)
 unfolding nodeRow
-nodes-below part a b i j t p q = subst (λ (x : Part). t ≡ belowKey (rowAt x a i .key) (rowAt x b j .key)) (sym p) q
-
-pub named-below : (a b : List ℕ) (i j : ℕ) (e d : Edge) (x y v w : Node) (to from : Bool) → e ≡ edgeAt (edgeTable a) i → d ≡ edgeAt (edgeTable b) j
-    → x ≡ nodeAt a (e .to) → y ≡ nodeAt b (d .to) → v ≡ nodeAt a (e .from) → w ≡ nodeAt b (d .from) → to ≡ belowKey (nodeKey x) (nodeKey y)
-    → from ≡ (ltb (v .class) (w .class) || (eqb (v .class) (w .class) && (ltb (v .number) (w .number) || (eqb (v .number) (w .number) && (ltb (v .variant) (w .variant) || (eqb (v .variant) (w .variant) && to))))))
-    → (ltb (e .kind) (d .kind) || (eqb (e .kind) (d .kind) && from)) ≡ belowKey (rowAt Edges a i .key) (rowAt Edges b j .key)
-unfolding edgeRow
-named-below a b i j e d x y v w to from p q r s t u k l =
-    ap (λ (z : Bool). ltb (e .kind) (d .kind) || (eqb (e .kind) (d .kind) && z)) l ∙ rw (k, r, s, t, u, p, q) refl
+nodes-below half a b i j t p q = subst (λ (x : Half). t ≡ belowKey (rowAt x a i .key) (rowAt x b j .key)) (sym p) q
 
 -- ---- the cases of a step
 
@@ -145,13 +111,17 @@ moves-inside n f m g i j i′ j′ M = let S = M .stepped in (inside n (keys f) 
     alone (takes a e z) (leaves b q) l = absurd (omega arith)
     alone (leaves a z) (leaves b q) l = absurd (omega (arith, M .stepped .moved))
 
+-- the same of the rows passed, handed on as one
+pub from-passed : (n m i j i′ : ℕ) (p : Passed) → p ≡ record { i = i; j = j } → (i < i′ → i < n) → (i′ ≤ i → j < m) → (p .i < i′ → p .i < n) × (i′ ≤ p .i → p .j < m)
+from-passed n m i j i′ p e a b = subst (λ (x : Passed). (x .i < i′ → x .i < n) × (i′ ≤ x .i → x .j < m)) (sym e) (a, b)
+
 -- what a sheet gives a step is marks of its offices
-pub given-low : (part : Part) (s : List ℕ) (h : Header) → WellFormed s (edgeTable s) h → (i next : ℕ) → (i < next → i < countIn part h) → given (rowAt part s) i next < 2 ^ h .offices
-given-low part s h w i next inside = go (decLt i next)
+pub given-low : (half : Half) (s : List ℕ) (h : Header) → WellFormed s (edgeTable s) h → (i next : ℕ) → (i < next → i < countIn half h) → given (rowAt half s) i next < 2 ^ h .offices
+given-low half s h w i next inside = go (decLt i next)
   where
-    go : Dec (i < next) → given (rowAt part s) i next < 2 ^ h .offices
-    go (yes l) = omega (arith, given-taken (rowAt part s) i next l, part-marks s h w part i (inside l))
-    go (no l) = omega (arith, given-left (rowAt part s) i next (omega arith), pow-pos (h .offices))
+    go : Dec (i < next) → given (rowAt half s) i next < 2 ^ h .offices
+    go (yes l) = omega (arith, given-taken (rowAt half s) i next l, half-marks s h w half i (inside l))
+    go (no l) = omega (arith, given-left (rowAt half s) i next (omega arith), pow-pos (h .offices))
 
 -- ---- maps and words
 
@@ -168,9 +138,9 @@ pub entry-past : (map : List ℕ) (x : ℕ) → length map ≤ x → x ≡ throu
 unfolding through
 entry-past map x h = sym (List·getD-eq-default map x h)
 
-pub spelled-is : (map : List ℕ) (e : Edge) (marks a b : ℕ) → a ≡ through map (e .from) → b ≡ through map (e .to) → record { kind = e .kind; from = a; to = b; offices = marks } ≡ spelled map e marks
+pub spelled-is : (map : List ℕ) (c : Cells) (marks a b : ℕ) → a ≡ through map (c .second) → b ≡ through map (c .third) → record { first = c .first; second = a; third = b; offices = marks } ≡ spelled map c marks
 unfolding spelled
-spelled-is map e marks a b p q = λ i. record { kind = e .kind; from = p i; to = q i; offices = marks }
+spelled-is map c marks a b p q = λ i. record { first = c .first; second = p i; third = q i; offices = marks }
 
 pub note-stored : (map : List ℕ) (from to place : ℕ) → from < to → set map from place ≡ noted map from to place
 unfolding noted
@@ -188,21 +158,32 @@ note-past map from to place h = go (ltb from to)
     go true = sym (set-out map from place h)
     go false = refl
 
-pub stored-some : (out : List ℕ) (k marks : ℕ) (e : Edge) → 0 < marks → sets out (4 * k) (edgeFour e) ≡ storedAt out k marks e
+pub stored-some : (half : Half) (form : ℕ) (out : List ℕ) (k : ℕ) (c : Cells) → 0 < c .offices → sets out (rowPlace half form k) (stored half form c) ≡ storedAt half form out k c
 unfolding storedAt
-stored-some out k marks e h = rw (lt-ltb 0 marks h) refl
+stored-some half form out k c h = rw (lt-ltb 0 (c .offices) h) refl
 
-pub stored-none : (out : List ℕ) (k marks : ℕ) (e : Edge) → marks ≤ 0 → out ≡ storedAt out k marks e
+pub stored-none : (half : Half) (form : ℕ) (out : List ℕ) (k : ℕ) (c : Cells) → c .offices ≤ 0 → out ≡ storedAt half form out k c
 unfolding storedAt
-stored-none out k marks e h = rw (le-ltb 0 marks h) refl
+stored-none half form out k c h = rw (le-ltb 0 (c .offices) h) refl
 
-pub taken-first : (part : Part) (a ma b mb : List ℕ) (i next j marks : ℕ) → i < next → spelled ma (wordsAt part a i) marks ≡ takenWords part a ma b mb i next j marks
-unfolding takenWords
-taken-first part a ma b mb i next j marks h = rw (lt-ltb i next h) refl
+pub taken-marks : (half : Half) (a ma b mb : List ℕ) (i next j marks : ℕ) → takenCells half a ma b mb i next j marks .offices ≡ marks
+unfolding takenCells spelled
+taken-marks half a ma b mb i next j marks = go (ltb i next)
+  where
+    go : (x : Bool) → cond x (spelled ma (cellsAt half a i) marks) (spelled mb (cellsAt half b j) marks) .offices ≡ marks
+    go true = refl
+    go false = refl
 
-pub taken-second : (part : Part) (a ma b mb : List ℕ) (i next j marks : ℕ) → next ≤ i → spelled mb (wordsAt part b j) marks ≡ takenWords part a ma b mb i next j marks
-unfolding takenWords
-taken-second part a ma b mb i next j marks h = rw (le-ltb i next h) refl
+pub taken-passed : (half : Half) (a ma b mb : List ℕ) (i j next marks : ℕ) (p : Passed) → p ≡ record { i = i; j = j } → takenCells half a ma b mb (p .i) next (p .j) marks ≡ takenCells half a ma b mb i next j marks
+taken-passed half a ma b mb i j next marks p e = ap (λ (x : Passed). takenCells half a ma b mb (x .i) next (x .j) marks) e
+
+pub taken-first : (half : Half) (a ma b mb : List ℕ) (i next j marks : ℕ) → i < next → spelled ma (cellsAt half a i) marks ≡ takenCells half a ma b mb i next j marks
+unfolding takenCells
+taken-first half a ma b mb i next j marks h = rw (lt-ltb i next h) refl
+
+pub taken-second : (half : Half) (a ma b mb : List ℕ) (i next j marks : ℕ) → next ≤ i → spelled mb (cellsAt half b j) marks ≡ takenCells half a ma b mb i next j marks
+unfolding takenCells
+taken-second half a ma b mb i next j marks h = rw (le-ltb i next h) refl
 
 pub one-is : (marks : ℕ) → 0 < marks → (1 ≡ numberOf (ltb 0 marks)) × (1 ≤ 1)
 one-is marks h = (sym (ap numberOf (lt-ltb 0 marks h)), omega arith)

@@ -11,13 +11,13 @@ use Rattle.sheet.specs.Found.{PlaceIs}
 use Rattle.sheet.proofs.Naming.{marks-held}
 use Rattle.sheet.proofs.Places.{place-one}
 use Rattle.sheet.proofs.Whole.{sheet-alike}
-use Rattle.combine.specs.declared.Part.the-variants.{Nodes}
+use Rattle.sheet.specs.declared.Half.the-variants.{Nodes}
 use Rattle.combine.specs.declared.Rule.{Rule}
 use Rattle.combine.specs.declared.Measure.{Measure}
 use Rattle.combine.specs.Combined.{Making, keys, PlacesIn}
-use Rattle.combine.specs.SheetTables.{rowAt}
+use Rattle.sheet.specs.Named.{rowAt}
 use Rattle.combine.specs.Sheets.{IsCombined, Pair, Measured, Laid}
-use Rattle.combine.proofs.Alike.{part-one, place-alike}
+use Rattle.combine.proofs.Alike.{half-one, place-alike}
 use Rattle.combine.proofs.Whole.{node-inputs}
 
 -- ---- what was measured
@@ -29,7 +29,7 @@ module _ (nodes edges : Rule) (c : ℕ) (a : List ℕ) (h : Header) (b : List �
   -- one law for both maps
   place-same : (s : List ℕ) (n : ℕ) (map map′ : ℕ → ℕ) → PlacesIn (rowAt Nodes s) n map (m .nodes) (M .node-rows .row) → PlacesIn (rowAt Nodes s) n map′ (m′ .nodes) (M′ .node-rows .row) → (x : ℕ) → x < n → map x ≡ map′ x
   place-same s n map map′ L L′ x l =
-      let rows = part-one nodes Nodes a h b g (node-inputs nodes edges c a h b g Q) c (Q .rules .nodes) (m .nodes) (m′ .nodes) (M .node-rows .row) (M′ .node-rows .row) (M .node-rows .combined) (M′ .node-rows .combined) in
+      let rows = half-one nodes Nodes a h b g (node-inputs nodes edges c a h b g Q) c (Q .rules .nodes) (m .nodes) (m′ .nodes) (M .node-rows .row) (M′ .node-rows .row) (M .node-rows .combined) (M′ .node-rows .combined) in
       place-one (keys (M′ .node-rows .row)) (m′ .nodes) (M′ .node-rows .combined .table .up) (rowAt Nodes s x .key) (map x) (map′ x)
       (subst (λ (k : ℕ). PlaceIs (keys (M′ .node-rows .row)) k (rowAt Nodes s x .key) (map x)) (rows .0) (place-alike _ _ (m .nodes) _ _ (rows .1) (L x l))) (L′ x l)
 

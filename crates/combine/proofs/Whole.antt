@@ -8,25 +8,26 @@ use lib.ListN.{length, getD, take, drop, replicate, length-replicate, length-app
 use lib.Seq.{sets, length-sets, sets-eq, take-at, drop-at, drop-drop, length-take-le}
 use Rattle.tables.specs.Table.{Row}
 use Rattle.sheet.specs.declared.Header.{Header}
-use Rattle.sheet.specs.Limits.{maxNodes, maxEdges, sheetWords, edgesFrom}
-use Rattle.sheet.specs.Rows.{headerOf}
+use Rattle.sheet.specs.Limits.{maxNodes, maxEdges, sheetWords, edgesFrom, edgePlace}
+use Rattle.sheet.specs.Rows.{headerOf, rowPlace}
 use Rattle.sheet.specs.Found.{PlaceIs}
 use Rattle.sheet.specs.Accepted.{Accepted}
 use Rattle.sheet.specs.Named.{nodeRow}
+use Rattle.sheet.proofs.Built.{built-long, built-header}
 use Rattle.sheet.proofs.Refusing.{from-on}
 use Rattle.sheet.specs.Stored.{headerSix}
-use Rattle.combine.specs.declared.Part.{Part}
-use Rattle.combine.specs.declared.Part.the-variants.{Nodes, Edges}
+use Rattle.sheet.specs.declared.Half.{Half}
+use Rattle.sheet.specs.declared.Half.the-variants.{Nodes, Edges}
 use Rattle.combine.specs.declared.Rule.{Rule}
 use Rattle.combine.specs.declared.Measure.{Measure}
 use Rattle.combine.specs.Combined.{keys, Combined, PlacesIn}
 use Rattle.combine.specs.Rules.{makes}
-use Rattle.combine.specs.SheetTables.{Inputs, through, Written, partRows}
+use Rattle.combine.specs.Halves.{Inputs, through, Written, keptRows}
 use Rattle.combine.specs.Sheets.{IsCombined, Pair, Measured, Laid}
 use Rattle.combine.proofs.Reading.{entry-inside}
 use Rattle.combine.proofs.Walking.{writes}
-use Rattle.combine.proofs.Laying.{sheet-long, sheet-header, combined}
-use Rattle.combine.proofs.Alike.{part-one, place-alike}
+use Rattle.combine.proofs.Laying.{combined}
+use Rattle.combine.proofs.Alike.{half-one, place-alike}
 
 -- ---- lent tails
 
@@ -55,12 +56,12 @@ second-room l t d k q g e h =
     let s = length-drop k (take d l ++ (t ++ drop (length l - d) (drop d l))) in
     omega arith
 
-pub first-room : (l : List ℕ) (n e : ℕ) → sheetWords n e ≤ length l → 4 * n ≤ length (take (length l - 6) (drop 6 l))
-first-room l n e h = omega (arith, ap length (from-on l 6), length-drop 6 l)
+pub first-room : (form : ℕ) (l : List ℕ) (n e : ℕ) → sheetWords form n e ≤ length l → rowPlace Nodes form n ≤ length (take (length l - 6) (drop 6 l))
+first-room form l n e h = omega (arith, ap length (from-on l 6), length-drop 6 l)
 
 -- what is written keeps the output's length
-written-long : (rule : Rule) (part : Part) (a : List ℕ) (h : Header) (b : List ℕ) (g : Header) (ma mb : List ℕ) (k : ℕ) (out out′ : List ℕ) → Written rule part a h b g ma mb k out out′ → 4 * k ≤ length out → length out′ ≡ length out
-written-long rule part a h b g ma mb k out out′ W l = ap length (W .holds) ∙ length-append (W .words) (drop (length (W .words)) out) ∙ omega (arith, length-drop (length (W .words)) out, W .spells .long)
+written-long : (rule : Rule) (half : Half) (a : List ℕ) (h : Header) (b : List ℕ) (g : Header) (ma mb : List ℕ) (k : ℕ) (out out′ : List ℕ) → Written rule half a h b g ma mb k out out′ → rowPlace half (h .form) k ≤ length out → length out′ ≡ length out
+written-long rule half a h b g ma mb k out out′ W l = ap length (W .holds) ∙ length-append (W .words) (drop (length (W .words)) out) ∙ omega (arith, length-drop (length (W .words)) out, W .spells .long)
 
 -- ---- the sheet
 
@@ -72,7 +73,7 @@ module _ (nodes edges : Rule) (c : ℕ) (a : List ℕ) (h : Header) (b : List �
   edge-inputs = record { first = Q .first; second = Q .second; safe = Q .safe-edges; none = Q .rules .edges .none }
 
 module _ (nodes edges : Rule) (c : ℕ) (a b : List ℕ) (Q : Pair nodes edges c a (headerOf a) b (headerOf b)) (m : Measure) (M : Measured nodes edges a (headerOf a) b (headerOf b) m)
-    (few-nodes : m .nodes ≤ maxNodes) (few-edges : m .edges ≤ maxEdges) where
+    (few-nodes : m .nodes ≤ maxNodes) (few-edges : m .edges ≤ maxEdges (headerOf a .form)) where
   -- the places that were noted are places in what is written
   places : (s : List ℕ) (map : List ℕ) → Accepted s → length map ≡ maxNodes → (row : ℕ → Row) → Combined (makes nodes) (headerOf a .nodes) (nodeRow a) (headerOf b .nodes) (nodeRow b) (m .nodes) row
       → (headerOf s .nodes ≤ length map → PlacesIn (nodeRow s) (headerOf s .nodes) (λ x. getD map x 0) (m .nodes) (M .node-rows .row)) → PlacesIn (nodeRow s) (headerOf s .nodes) (through map) (m .nodes) row
@@ -82,22 +83,25 @@ module _ (nodes edges : Rule) (c : ℕ) (a b : List ℕ) (Q : Pair nodes edges c
       (place-alike (M .node-rows .row) row (m .nodes) _ _ (same .1) (L fits x l))
     where
       same : (m .nodes ≡ m .nodes) × ((u : ℕ) → u < m .nodes → M .node-rows .row u ≡ row u)
-      same = part-one nodes Nodes a (headerOf a) b (headerOf b) (node-inputs nodes edges c a (headerOf a) b (headerOf b) Q) c (Q .rules .nodes) (m .nodes) (m .nodes) (M .node-rows .row) row (M .node-rows .combined) C
+      same = half-one nodes Nodes a (headerOf a) b (headerOf b) (node-inputs nodes edges c a (headerOf a) b (headerOf b) Q) c (Q .rules .nodes) (m .nodes) (m .nodes) (M .node-rows .row) row (M .node-rows .combined) C
 
-  module _ (out l : List ℕ) (room : sheetWords (m .nodes) (m .edges) ≤ length out) (first : l ≡ sets out 0 (headerSix c (m .nodes) (m .edges))) where
+  module _ (out l : List ℕ) (room : sheetWords (headerOf a .form) (m .nodes) (m .edges) ≤ length out) (first : l ≡ sets out 0 (headerSix (headerOf a .form) c (m .nodes) (m .edges))) where
+    abbrev form : ℕ
+    form = headerOf a .form
+
     abbrev n : ℕ
     n = m .nodes
 
     abbrev e : ℕ
     e = m .edges
 
-    six : length (headerSix c n e) ≡ 6
+    six : length (headerSix form c n e) ≡ 6
     unfolding headerSix
     six = refl
 
-    headed : l ≡ headerSix c n e ++ drop 6 out
+    headed : l ≡ headerSix form c n e ++ drop 6 out
     unfolding headerSix
-    headed = first ∙ sets-eq (headerSix c n e) out 0 (omega arith)
+    headed = first ∙ sets-eq (headerSix form c n e) out 0 (omega arith)
 
     laid : (t : List ℕ) → Written nodes Nodes a (headerOf a) b (headerOf b) [] [] n (take (length l - 6) (drop 6 l)) t → (k : List ℕ) → k ≡ take 6 l ++ (t ++ drop (length l - 6) (drop 6 l))
         → (u : List ℕ) → Written edges Edges a (headerOf a) b (headerOf b) (m .first) (m .second) e (take (length k - edgesFrom n) (drop (edgesFrom n) k)) u
@@ -105,27 +109,27 @@ module _ (nodes edges : Rule) (c : ℕ) (a b : List ℕ) (Q : Pair nodes edges c
     laid t WN k second u WE =
         let wn = WN .words in
         let we = WE .words in
-        let s = second ∙ lent-front l (headerSix c n e) (drop 6 out) wn t 6 headed six (WN .holds) in
-        let long : length (headerSix c n e ++ wn) ≡ edgesFrom n = length-append (headerSix c n e) wn ∙ omega (arith, six, WN .spells .long) in
-        let z : 6 + length wn + length we ≡ sheetWords n e = omega (arith, WN .spells .long, WE .spells .long) in
-        let hd = sheet-header c n e wn we (WN .spells .long) (WE .spells .long) in
-        let all : length (headerSix c n e ++ wn ++ we) ≡ sheetWords n e = sheet-long c n e wn we (WN .spells .long) (WE .spells .long) in
+        let s = second ∙ lent-front l (headerSix form c n e) (drop 6 out) wn t 6 headed six (WN .holds) in
+        let long : length (headerSix form c n e ++ wn) ≡ edgesFrom n = length-append (headerSix form c n e) wn ∙ omega (arith, six, WN .spells .long) in
+        let z : 6 + length wn + length we ≡ sheetWords form n e = omega (arith, WN .spells .long, WE .spells .long) in
+        let hd = built-header form c n e wn we (WN .spells .long) (WE .spells .long) in
+        let all : length (headerSix form c n e ++ wn ++ we) ≡ sheetWords form n e = built-long form c n e wn we (WN .spells .long) (WE .spells .long) in
         record {
-          sheet = headerSix c n e ++ wn ++ we;
+          sheet = headerSix form c n e ++ wn ++ we;
           is = combined (makes nodes) (makes edges) c a b (Q .first) (Q .second) (Q .rules) (Q .low) (Q .high) n e few-nodes few-edges wn we (m .first) (m .second) (WN .row) (WE .row) (WN .combined) (WE .combined) (WN .spells) (WE .spells)
               (places a (m .first) (Q .first) (M .first-long) (WN .row) (WN .combined) (M .node-rows .first)) (places b (m .second) (Q .second) (M .second-long) (WN .row) (WN .combined) (M .node-rows .second));
           long = all;
           rows = (ap (λ (x : Header). x .nodes) hd, ap (λ (x : Header). x .edges) hd);
-          holds = lent-front k (headerSix c n e ++ wn) (drop (length wn) (drop 6 out)) we u (edgesFrom n) s long (WE .holds)
-              ∙ ap (λ (x : List ℕ). headerSix c n e ++ wn ++ we ++ x) (ap (drop (length we)) (drop-drop (length wn) 6 out) ∙ drop-drop (length we) (6 + length wn) out ∙ ap (λ (x : ℕ). drop x out) (z ∙ sym all));
+          holds = lent-front k (headerSix form c n e ++ wn) (drop (length wn) (drop 6 out)) we u (edgesFrom n) s long (WE .holds)
+              ∙ ap (λ (x : List ℕ). headerSix form c n e ++ wn ++ we ++ x) (ap (drop (length we)) (drop-drop (length wn) 6 out) ∙ drop-drop (length we) (6 + length wn) out ∙ ap (λ (x : ℕ). drop x out) (z ∙ sym all));
         }
 
 -- .. under the headers that the sheets have
 abbrev LaidBy : Rule → Rule → ℕ → List ℕ → Header → List ℕ → Header → Measure → Type 0
 LaidBy nodes edges c a h b g m =
-    Pair nodes edges c a h b g → Measured nodes edges a h b g m → m .nodes ≤ maxNodes → m .edges ≤ maxEdges → (out l : List ℕ) → sheetWords (m .nodes) (m .edges) ≤ length out → l ≡ sets out 0 (headerSix c (m .nodes) (m .edges))
-    → (t : List ℕ) → Written nodes Nodes a h b g [] [] (partRows nodes Nodes a h b g) (take (length l - 6) (drop 6 l)) t → (k : List ℕ) → k ≡ take 6 l ++ (t ++ drop (length l - 6) (drop 6 l))
-    → (u : List ℕ) → Written edges Edges a h b g (m .first) (m .second) (partRows edges Edges a h b g) (take (length k - edgesFrom (m .nodes)) (drop (edgesFrom (m .nodes)) k)) u
+    Pair nodes edges c a h b g → Measured nodes edges a h b g m → m .nodes ≤ maxNodes → m .edges ≤ maxEdges (h .form) → (out l : List ℕ) → sheetWords (h .form) (m .nodes) (m .edges) ≤ length out → l ≡ sets out 0 (headerSix (h .form) c (m .nodes) (m .edges))
+    → (t : List ℕ) → Written nodes Nodes a h b g [] [] (keptRows nodes Nodes a h b g) (take (length l - 6) (drop 6 l)) t → (k : List ℕ) → k ≡ take 6 l ++ (t ++ drop (length l - 6) (drop 6 l))
+    → (u : List ℕ) → Written edges Edges a h b g (m .first) (m .second) (keptRows edges Edges a h b g) (take (length k - edgesFrom (m .nodes)) (drop (edgesFrom (m .nodes)) k)) u
     → Laid nodes edges c a h b g m out (take (edgesFrom (m .nodes)) k ++ (u ++ drop (length k - edgesFrom (m .nodes)) (drop (edgesFrom (m .nodes)) k)))
 
 pub laid-by : (nodes edges : Rule) (c : ℕ) (a : List ℕ) (h : Header) (b : List ℕ) (g : Header) (m : Measure) → LaidBy nodes edges c a h b g m
@@ -143,17 +147,17 @@ laid-by nodes edges c a h b g m Q =
 pub record There (nodes edges : Rule) (c : ℕ) (a : List ℕ) (h : Header) (b : List ℕ) (g : Header) (m : Measure) : Type 0 where
   pub sheet : List ℕ
   pub is : IsCombined (makes nodes) (makes edges) c a b sheet
-  pub long : length sheet ≡ sheetWords (m .nodes) (m .edges)
+  pub long : length sheet ≡ sheetWords (h .form) (m .nodes) (m .edges)
 
-pub there : (nodes edges : Rule) (c : ℕ) (a : List ℕ) (h : Header) (b : List ℕ) (g : Header) (m : Measure) → Pair nodes edges c a h b g → Measured nodes edges a h b g m → m .nodes ≤ maxNodes → m .edges ≤ maxEdges → There nodes edges c a h b g m
+pub there : (nodes edges : Rule) (c : ℕ) (a : List ℕ) (h : Header) (b : List ℕ) (g : Header) (m : Measure) → Pair nodes edges c a h b g → Measured nodes edges a h b g m → m .nodes ≤ maxNodes → m .edges ≤ maxEdges (h .form) → There nodes edges c a h b g m
 there nodes edges c a h b g m Q M x y =
-    let out = replicate {A = ℕ} (sheetWords (m .nodes) (m .edges)) 0 in
-    let room : sheetWords (m .nodes) (m .edges) ≤ length out = omega (arith, length-replicate {A = ℕ} (sheetWords (m .nodes) (m .edges)) 0) in
-    let l = sets out 0 (headerSix c (m .nodes) (m .edges)) in
-    let long : length l ≡ length out = length-sets out 0 (headerSix c (m .nodes) (m .edges)) in
-    let N = writes nodes Nodes a h b g (node-inputs nodes edges c a h b g Q) [] [] (take (length l - 6) (drop 6 l)) (omega (arith, M .node-rows .count, first-room l (m .nodes) (m .edges) (omega arith))) in
+    let out = replicate {A = ℕ} (sheetWords (h .form) (m .nodes) (m .edges)) 0 in
+    let room : sheetWords (h .form) (m .nodes) (m .edges) ≤ length out = omega (arith, length-replicate {A = ℕ} (sheetWords (h .form) (m .nodes) (m .edges)) 0) in
+    let l = sets out 0 (headerSix (h .form) c (m .nodes) (m .edges)) in
+    let long : length l ≡ length out = length-sets out 0 (headerSix (h .form) c (m .nodes) (m .edges)) in
+    let N = writes nodes Nodes a h b g (node-inputs nodes edges c a h b g Q) [] [] (take (length l - 6) (drop 6 l)) (omega (arith, M .node-rows .count, first-room (h .form) l (m .nodes) (m .edges) (omega arith))) in
     let k = take 6 l ++ (N .after ++ drop (length l - 6) (drop 6 l)) in
     let E = writes edges Edges a h b g (edge-inputs nodes edges c a h b g Q) (m .first) (m .second) (take (length k - edgesFrom (m .nodes)) (drop (edgesFrom (m .nodes)) k))
-    (omega (arith, M .edge-rows, second-room l (N .after) 6 (edgesFrom (m .nodes)) (4 * m .edges) (omega arith) (written-long _ _ _ _ _ _ _ _ _ _ _ (N .is) (omega (arith, M .node-rows .count, first-room l (m .nodes) (m .edges) (omega arith)))) (omega arith))) in
+    (omega (arith, ap (edgePlace (h .form)) (M .edge-rows), second-room l (N .after) 6 (edgesFrom (m .nodes)) (edgePlace (h .form) (m .edges)) (omega arith) (written-long _ _ _ _ _ _ _ _ _ _ _ (N .is) (omega (arith, M .node-rows .count, first-room (h .form) l (m .nodes) (m .edges) (omega arith)))) (omega arith))) in
     let L = laid-by nodes edges c a h b g m Q M x y out l room refl (N .after) (N .is) k refl (E .after) (E .is) in
     record { sheet = L .sheet; is = L .is; long = L .long }

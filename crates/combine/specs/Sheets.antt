@@ -11,12 +11,12 @@ use Rattle.sheet.specs.Limits.{maxOffices, maxNodes, sheetWords}
 use Rattle.sheet.specs.Rows.{headerOf, edgeTable}
 use Rattle.sheet.specs.Accepted.{Accepted, WellFormed}
 use Rattle.sheet.specs.Named.{tablesOf}
-use Rattle.combine.specs.declared.Part.the-variants.{Nodes, Edges}
+use Rattle.sheet.specs.declared.Half.the-variants.{Nodes, Edges}
 use Rattle.combine.specs.declared.Rule.{Rule}
 use Rattle.combine.specs.Combined.{Making}
 use Rattle.combine.specs.declared.Measure.{Measure}
 use Rattle.combine.specs.Rules.{makes, Safe, Rules}
-use Rattle.combine.specs.SheetTables.{Surveyed, partRows}
+use Rattle.combine.specs.Halves.{Surveyed, keptRows}
 
 -- t is a and b combined, as a sheet of so many offices
 pub record IsCombined (N E : Making) (offices : ℕ) (a b t : List ℕ) : Type 0 where
@@ -40,12 +40,12 @@ pub record Measured (nodes edges : Rule) (a : List ℕ) (h : Header) (b : List �
   pub first-long : length (m .first) ≡ maxNodes
   pub second-long : length (m .second) ≡ maxNodes
   pub node-rows : Surveyed nodes Nodes a h b g (m .first) (m .second) (m .nodes)
-  pub edge-rows : m .edges ≡ partRows edges Edges a h b g
+  pub edge-rows : m .edges ≡ keptRows edges Edges a h b g
 
 -- the words of node rows and of edge rows stand behind a header, in front of the output
 pub record Laid (nodes edges : Rule) (offices : ℕ) (a : List ℕ) (h : Header) (b : List ℕ) (g : Header) (m : Measure) (out out′ : List ℕ) : Type 0 where
   pub sheet : List ℕ
   pub is : IsCombined (makes nodes) (makes edges) offices a b sheet
-  pub long : length sheet ≡ sheetWords (m .nodes) (m .edges)
+  pub long : length sheet ≡ sheetWords (h .form) (m .nodes) (m .edges)
   pub rows : (headerOf sheet .nodes ≡ m .nodes) × (headerOf sheet .edges ≡ m .edges)
   pub holds : out′ ≡ sheet ++ drop (length sheet) out

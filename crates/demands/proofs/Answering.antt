@@ -1,12 +1,12 @@
--- Demand 2 of the forms that the entries' statements take: what stands in front of the output is what was asked for, and 26 is told only where there is none.
+-- Demand 2 of the forms that the entries' statements take: what stands in front of the output is what was asked for, and what is not shown is missing.
 -- Assumes nothing.
 use Prim.Native.Nat.{ℕ, _<_}
 use mathlib.Core.Path.{_≡_, refl, sym, subst}
 use mathlib.Core.Bool.{Bool, true, false, true≢false}
 use mathlib.Core.List.{List}
-use mathlib.Core.Logic.{_↔_}
+use mathlib.Core.Logic.{_↔_, _⊎_, inl, inr}
 use native.Mathlib.Omega.{arith}
-use lib.ListN.{length, drop}
+use lib.Seq.{take-at}
 use Rattle.tables.specs.Office.{View}
 use Rattle.sheet.specs.declared.Refusal.{Refusal}
 use Rattle.sheet.specs.Refusals.{refuse}
@@ -21,8 +21,7 @@ use Rattle.question.specs.Replies.{Replies, refused, answered, Shows, missing, 
 use Rattle.tables.specs.Count.{numberOf}
 use Rattle.files.specs.Bytes.{bytesOf}
 use Rattle.counter.specs.Filed.{InBytes, in-bytes}
-use Rattle.joint.proofs.Demand.{read-front}
-use Rattle.demands.specs.Demands.{front}
+use Rattle.demands.specs.Demands.{NoSuch, front}
 
 -- ---- a reply
 
@@ -84,15 +83,15 @@ module _ (refusal : Refusal) (R : List ℕ → Type 0) (out : List ℕ) where
   front-is (refused h) z = absurd (h z)
   front-is (missing y n) z = absurd (omega (arith, z))
   front-is (short ws y x l) z = absurd (omega (arith, z))
-  front-is (written ws y x l) z = subst R (sym (read-front ws (drop (length ws) out))) x
+  front-is (written ws y x l) z = subst R (sym (take-at ws _ _ refl)) x
 
-  -- 26 exactly where there is none
-  pub missing-only : {a : Answer} {out′ : List ℕ} → refusal .number ≡ 0 → Shows refusal R out a out′ → (a .number ≡ 26) ↔ ((ws : List ℕ) → R ws → ⊥)
+  -- what is not shown, but for want of room, is refused or missing
+  pub not-shown : {a : Answer} {out′ : List ℕ} → Shows refusal R out a out′ → (a .number ≡ 0 → ⊥) → (a .number ≡ 25 → ⊥) → (refusal .number ≡ 0 → ⊥) ⊎ NoSuch R
   unfolding refuse
-  missing-only z (refused h) = absurd (h z)
-  missing-only z (missing y n) = (λ e. n, λ u. refl)
-  missing-only z (short ws y x l) = (λ e. absurd (omega (arith, e)), λ u. absurd (u ws x))
-  missing-only z (written ws y x l) = (λ e. absurd (omega (arith, e)), λ u. absurd (u ws x))
+  not-shown (refused h) shown room = inl h
+  not-shown (missing y n) shown room = inr n
+  not-shown (short ws y x l) shown room = absurd (room refl)
+  not-shown (written ws y x l) shown room = absurd (shown refl)
 
 -- ---- a list shown in bytes
 
@@ -101,8 +100,8 @@ pub in-bytes-of : (P Q : List ℕ → Type 0) → ((ws : List ℕ) → P ws → 
 in-bytes-of P Q f bs (in-bytes ws x) = in-bytes ws (f ws x)
 
 -- there are such bytes exactly where there is such a list
-pub none-in-bytes : (P : List ℕ → Type 0) → ((bs : List ℕ) → InBytes P bs → ⊥) ↔ ((ws : List ℕ) → P ws → ⊥)
+pub none-in-bytes : (P : List ℕ → Type 0) → NoSuch (InBytes P) ↔ NoSuch P
 none-in-bytes P = (λ h ws x. h (bytesOf ws) (in-bytes ws x), λ h bs. back h bs)
   where
-    back : ((ws : List ℕ) → P ws → ⊥) → (bs : List ℕ) → InBytes P bs → ⊥
+    back : NoSuch P → NoSuch (InBytes P)
     back h bs (in-bytes ws x) = h ws x

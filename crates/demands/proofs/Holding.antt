@@ -1,48 +1,84 @@
 -- The three demands hold, each by the laws of the crates below and, for the forms of the statements, by the files beside this one.
 -- Assumes nothing.
-use Prim.Native.Nat.{ℕ, _+_, _-_, _*_, _^_, _<_, _≤_}
+use Prim.Native.Nat.{ℕ, _+_, _-_, _*_, _/_, _%_, _^_, _<_, _≤_}
 use mathlib.Core.Path.{_≡_, refl, sym, ap, ap₂, _∙_}
+use mathlib.Core.Bool.{true, false, true≢false}
 use mathlib.Core.List.{List, []}
-use mathlib.Core.Logic.{_↔_}
+use mathlib.Core.Logic.{_↔_, ⊎-elim}
 use native.Mathlib.Omega.{arith}
 use lib.ListN.{length, take, drop, length-drop}
 use lib.Seq.{length-take-le}
+use borrow.Author.Tests.{eqb-true, eq-eqb, not-false, ltb-false, le-ltb}
 use Rattle.tables.specs.Key.{Key}
 use Rattle.tables.specs.Table.{marksAt}
 use Rattle.sheet.specs.declared.Refusal.{Refusal}
-use Rattle.sheet.specs.Limits.{nodeWords, edgesFrom, maxNodes, maxEdges, sheetWords}
+use Rattle.sheet.specs.Limits.{nodeWords, edgesFrom, maxBytes}
 use Rattle.sheet.specs.Parts.{Part}
+use Rattle.sheet.specs.Refusals.{none}
 use Rattle.sheet.specs.Rows.{headerOf}
 use Rattle.sheet.specs.Accepted.{Accepted}
 use Rattle.sheet.specs.Named.{tablesOf, seenAt}
 use Rattle.sheet.specs.Verdict.{verdict}
-use Rattle.sheet.proofs.Accepting.{not-refused}
-use Rattle.sheet.proofs.Refusing.{then-none}
-use Rattle.meaning.specs.Questions.{BothAt, HoldsBoth}
+use Rattle.sheet.proofs.Accepting.{or-false, accepted, not-refused}
+use Rattle.sheet.proofs.Refusing.{else-none, line-good, line-none, refuse-good, refuse-none, then-good, then-none}
+use Rattle.meaning.specs.Questions.{BothAt, LeastTripleIs, HoldsBoth, LeastHolderIs}
 use Rattle.meaning.specs.Join.{officesOf, IsJoin}
+use Rattle.meaning.specs.Paths.{Side, grant, ban, HasPath}
+use Rattle.meaning.specs.Answers.{Says, gives}
+use Rattle.meaning.proofs.Axioms.{a1-a2, says}
 use Rattle.meaning.proofs.Joins.{taken-one}
 use Rattle.meaning.proofs.Sites.{union-nodes, union-edges}
 use Rattle.meaning.proofs.Unique.{witness-one, persons-in-category-one, persons-with-grant-one, folios-out-of-reach-one, least-triple-one, least-holder-one, redundant-edges-one}
 use Rattle.question.specs.declared.Question.{Question}
 use Rattle.question.specs.declared.Answer.{Answer}
-use Rattle.question.specs.Asked.{asked, sideOf}
-use Rattle.lookup.proofs.Looking.{both-accepted}
-use Rattle.ask.specs.Promises.{WitnessOf}
+use Rattle.question.specs.Asked.{asked, badOffice, askFault, plain, afterSheet, sideOf}
+use Rattle.lookup.proofs.Looking.{identity-in, both-accepted}
+use Rattle.question.specs.Replies.{Shows}
+use Rattle.question.proofs.Telling.{plain-none}
+use Rattle.ask.specs.Promises.{WitnessOf, Witnesses}
+use Rattle.ask.proofs.Placing.{unknown-undetermined}
 use Rattle.opened.specs.declared.Which.{Which}
 use Rattle.opened.specs.declared.Which.the-variants.{AnswerAtOffice, JointAnswer, Witness, PersonsInCategory, PersonsWithGrant, FoliosOutOfReach, LeastTriple, LeastHolder, RedundantEdges}
 use Rattle.opened.specs.Asking.{questionOf, Promised}
-use Rattle.files.specs.Bytes.{wordsOf}
+use Rattle.files.specs.Bytes.{wordsOf, bytesOf, bytesFault, bytesVerdict}
+use Rattle.counter.specs.Filed.{afterFile, InBytes}
 use Rattle.counter.proofs.Single.{bytes-one}
-use Rattle.lookup.specs.Looked.{lookFault, LooksUp, refused, in-first, in-second}
+use Rattle.lookup.specs.Looked.{hasIdentity, lookFault, LooksUp, refused, in-first, in-second}
 use Rattle.join.specs.declared.Joined.{Joined}
-use Rattle.join.specs.Joins.{unionNodes, unionEdges, sheetsFault, unionFault, joinFault, Joining, joined, refused as not-joined}
-use Rattle.join.proofs.Refusing.{none-refused, in-none, union-passes}
+use Rattle.join.specs.Joins.{joinFault, JoinsAs, joined, refused as not-joined}
+use Rattle.join_files.specs.JoinedFiles.{filesFault}
 use Rattle.takeout.proofs.Back.{first-taken, second-taken}
-use Rattle.joint.proofs.Demand.{no-two-pairs, joins-again, asked-combined}
-use Rattle.demands.specs.Demands.{Demand1, Demand2, Demand3, Sheet, Union, JointSheet, PathOf, OfWords}
-use Rattle.demands.proofs.Keeping.{sheet-says, lookup-says, file-says, joins-keep, files-keep, shows-keep}
+use Rattle.demands.specs.Demands.{NoSuch, PathOf, RowPartOf, OfWords, Demand1, Demand2, Sheet, Union, JointSheet, Demand3}
+use Rattle.demands.proofs.Counting.{nodes-union, edges-union}
+use Rattle.demands.proofs.Together.{not-refusing, none-refuses, no-two-pairs, takes-out, joins-again, asked-combined, asked-within}
+use Rattle.demands.proofs.Keeping.{sheet-says, lookup-says, file-says, joins-keep, files-keep, writer-keeps, shows-keep}
+use Rattle.demands.proofs.Existing.{persons-some, holders-some, unreached-some, redundant-some, office-some}
 use Rattle.demands.proofs.Least.{none-first, none-least}
-use Rattle.demands.proofs.Answering.{told-is, four, gives-exactly, by-priority, by-order, side-decides, first-decided, no-is, yes-is, front-is, missing-only, in-bytes-of, none-in-bytes}
+use Rattle.demands.proofs.Answering.{told-is, four, gives-exactly, by-priority, by-order, side-decides, first-decided, no-is, yes-is, front-is, not-shown, in-bytes-of, none-in-bytes}
+
+-- ---- sheets and files
+
+-- an entry that the table does not refuse was handed an accepted sheet
+sheet-passed : (s : List ℕ) (k : ℕ) → afterSheet s k .number ≡ 0 → Accepted s
+unfolding afterSheet
+sheet-passed s k z = accepted 1 s (then-good (verdict 1 s) (plain k) z .0)
+
+file-formed : (place : ℕ) (f : List ℕ) → (bytesVerdict place f ≡ none) ↔ ((length f % 4 ≡ 0) × (length f ≤ maxBytes) × Accepted (wordsOf f))
+unfolding bytesVerdict bytesFault
+file-formed place f = (passed, formed)
+  where
+    passed : bytesVerdict place f ≡ none → (length f % 4 ≡ 0) × (length f ≤ maxBytes) × Accepted (wordsOf f)
+    passed e =
+        let r = refuse-good (bytesFault (length f)) place 0 (verdict place (wordsOf f)) (ap (λ (x : Refusal). x .number) e) in
+        let o = or-false _ _ (line-good 33 _ 0 tt (r .0) .0) in
+        (eqb-true _ _ (not-false _ (o .0)), ltb-false _ _ (o .1), accepted place (wordsOf f) (r .1))
+
+    formed : (length f % 4 ≡ 0) × (length f ≤ maxBytes) × Accepted (wordsOf f) → bytesVerdict place f ≡ none
+    formed x =
+        let k : bytesFault (length f) ≡ 0 = line-none 33 _ 0 (rw (eq-eqb (length f % 4) 0 (x .0), le-ltb maxBytes (length f) (x .1)) refl) refl in
+        refuse-none (bytesFault (length f)) place 0 (verdict place (wordsOf f)) k ∙ not-refused place (wordsOf f) (x .2)
+
+-- ---- lookups
 
 -- a row has words
 row-some : (s : List ℕ) (i : ℕ) → Accepted s → i < headerOf s .nodes → take nodeWords (drop (edgesFrom i) s) ≡ [] → ⊥
@@ -58,6 +94,59 @@ look a b k (refused h) = (λ e. h, λ h′. refl)
 look a b k (in-first i z l e) = (λ n. absurd (row-some (a .words) i (both-accepted (a .words) (b .words) k _ refl z .0) l n), λ h. absurd (h z))
 look a b k (in-second i z m l e) = (λ n. absurd (row-some (b .words) i (both-accepted (a .words) (b .words) k _ refl z .1) l n), λ h. absurd (h z))
 
+look-row : (a b : Part) (k : Key) {p : Part} → LooksUp a b k p → lookFault (a .words) (b .words) k .number ≡ 0
+    → (hasIdentity (a .words) k ≡ true → RowPartOf a k p) × (hasIdentity (a .words) k ≡ false → RowPartOf b k p)
+look-row a b k (refused h) z = absurd (h z)
+look-row a b k (in-first i y l e) z = (λ t. record { row = i; inside = l; names = e; lies = refl }, λ t. absurd (true≢false (sym (identity-in (a .words) k i l e) ∙ t)))
+look-row a b k (in-second i y m l e) z = (λ t. absurd (true≢false (sym t ∙ m)), λ t. record { row = i; inside = l; names = e; lies = refl })
+
+-- ---- what is missing
+
+-- no best path, or no bytes of one, exactly where there is no path
+no-path-words : (s : List ℕ) (q : Question) → NoSuch (WitnessOf s q) ↔ NoSuch (PathOf s q)
+no-path-words s q = none-first (PathOf s q)
+
+no-path-bytes : (f : List ℕ) (q : Question) → NoSuch (InBytes (WitnessOf (wordsOf f) q)) ↔ NoSuch (PathOf (wordsOf f) q)
+no-path-bytes f q =
+    let n = none-in-bytes (WitnessOf (wordsOf f) q) in
+    let m = no-path-words (wordsOf f) q in
+    (λ x. m .0 (n .0 x), λ x. n .1 (m .1 x))
+
+-- no least triple or pair exactly where there is none
+no-triple : (s : List ℕ) (q : Question) → NoSuch (LeastTripleIs (asked s q)) ↔ NoSuch (BothAt (asked s q))
+no-triple s q = none-least 3 (BothAt (asked s q)) (λ ws y. ap length (y .words))
+
+no-pair : (s : List ℕ) (q : Question) → NoSuch (LeastHolderIs (asked s q) (q .deed) (q .other)) ↔ NoSuch (HoldsBoth (asked s q) (q .deed) (q .other))
+no-pair s q = none-least 2 (HoldsBoth (asked s q) (q .deed) (q .other)) (λ ws y. ap length (y .words))
+
+-- whom an office does not know has no path there
+unknown-has-none : (s : List ℕ) (q : Question) → Accepted s → badOffice (headerOf s) (q .office) ≡ 0 → (askFault s q ≡ 0 → ⊥) → NoSuch (PathOf s q)
+unfolding askFault
+unknown-has-none s q w office h ws e = says-none (sideOf (q .kind)) (says (asked s q) (q .person) (q .deed) (q .folio) (sideOf (q .kind)) 0 (unknown-undetermined s w (q .office) q (λ z. h (else-none _ _ office ∙ z)))) (record { words = ws; is = e })
+  where
+    says-none : (side : Side) → Says (gives side 0) (HasPath (asked s q) side (q .person) (q .deed) (q .folio)) → HasPath (asked s q) side (q .person) (q .deed) (q .folio) → ⊥
+    says-none grant n = n
+    says-none ban n = n
+
+-- so a path that is not shown does not exist
+path-refused : (s : List ℕ) (q : Question) (out : List ℕ) {a : Answer} {out′ : List ℕ} → Witnesses s q out a out′ → Accepted s → badOffice (headerOf s) (q .office) ≡ 0 → (a .number ≡ 0 → ⊥) → (a .number ≡ 25 → ⊥) → NoSuch (PathOf s q)
+path-refused s q out x w office m n =
+    ⊎-elim (λ h. unknown-has-none s q w office (λ e. h (not-refusing s (askFault s q) w e))) (no-path-words s q .0) (not-shown _ _ out x m n)
+
+path-refused-bytes : (f : List ℕ) (q : Question) (out : List ℕ) {a : Answer} {out′ : List ℕ} → Shows (afterFile f (askFault (wordsOf f) q)) (InBytes (WitnessOf (wordsOf f) q)) out a out′
+    → bytesVerdict 1 f ≡ none → badOffice (headerOf (wordsOf f)) (q .office) ≡ 0 → (a .number ≡ 0 → ⊥) → (a .number ≡ 25 → ⊥) → NoSuch (PathOf (wordsOf f) q)
+unfolding afterFile
+path-refused-bytes f q out x v office m n =
+    ⊎-elim
+    (λ h. unknown-has-none (wordsOf f) q (file-formed 1 f .0 v .2) office (λ e. h (ap (λ (r : Refusal). r .number) (then-none (bytesVerdict 1 f) (plain (askFault (wordsOf f) q)) v) ∙ plain-none (askFault (wordsOf f) q) e)))
+    (no-path-bytes f q .0) (not-shown _ _ out x m n)
+
+-- what is never-missing missing
+never-missing : {R : List ℕ → Type 0} → (NoSuch R → ⊥) → NoSuch R ↔ ⊥
+never-missing some = (some, λ x. absurd x)
+
+-- ---- opened sheets
+
 as-words : (which : Which) (s : List ℕ) (q : Question) (out : List ℕ) (a : Answer) (out′ : List ℕ) → Promised (questionOf which) s q out a out′ → OfWords which s q out a out′
 unfolding questionOf Promised
 as-words AnswerAtOffice s q out a out′ x = x
@@ -70,31 +159,38 @@ as-words LeastTriple s q out a out′ x = x
 as-words LeastHolder s q out a out′ x = x
 as-words RedundantEdges s q out a out′ x = x
 
+-- ---- the demands
+
 pub demand-1 : Demand1
 demand-1 = record {
+  sheets = λ place s. (λ e. accepted place s (ap (λ (x : Refusal). x .number) e), not-refused place s);
+  files = file-formed;
   question-1 = λ s q x. sheet-says s _ _ x;
   question-2 = λ s q x. sheet-says s _ _ x;
-  question-3 = λ s q out x. shows-keep _ _ (witness-one (asked s q) (sideOf (q .kind)) (q .person) (q .deed) (q .folio)) out x;
+  question-3 = λ s q out x. shows-keep _ _ _ (witness-one (asked s q) (sideOf (q .kind)) (q .person) (q .deed) (q .folio)) (λ z. no-path-words s q) out x;
   question-4 = λ s q list x. sheet-says s _ _ x;
-  question-5 = λ s q out x. shows-keep _ _ (persons-in-category-one (asked s q) (q .category)) out x;
-  question-6 = λ s q out x. shows-keep _ _ (persons-with-grant-one (asked s q) (q .deed) (q .folio)) out x;
-  question-7 = λ s q out x. shows-keep _ _ (folios-out-of-reach-one (asked s q)) out x;
-  question-8 = λ s q out x. shows-keep _ _ (least-triple-one (asked s q)) out x;
-  question-9 = λ s q out x. shows-keep _ _ (least-holder-one (asked s q) (q .deed) (q .other)) out x;
-  question-10 = λ s q out x. shows-keep _ _ (redundant-edges-one s (q .office)) out x;
-  take-out = λ s office out x. shows-keep _ _ (taken-one s (office - 1) 1) out x;
+  question-5 = λ s q out x. shows-keep _ _ _ (persons-in-category-one (asked s q) (q .category)) (λ z. never-missing (persons-some s (sheet-passed s _ z) (q .office) (q .category))) out x;
+  question-6 = λ s q out x. shows-keep _ _ _ (persons-with-grant-one (asked s q) (q .deed) (q .folio)) (λ z. never-missing (holders-some s (sheet-passed s _ z) (q .office) (q .deed) (q .folio))) out x;
+  question-7 = λ s q out x. shows-keep _ _ _ (folios-out-of-reach-one (asked s q)) (λ z. never-missing (unreached-some s (sheet-passed s _ z) (q .office))) out x;
+  question-8 = λ s q out x. shows-keep _ _ _ (least-triple-one (asked s q)) (λ z. no-triple s q) out x;
+  question-9 = λ s q out x. shows-keep _ _ _ (least-holder-one (asked s q) (q .deed) (q .other)) (λ z. no-pair s q) out x;
+  question-10 = λ s q out x. shows-keep _ _ _ (redundant-edges-one s (q .office)) (λ z. never-missing (redundant-some s (sheet-passed s _ z) (q .office))) out x;
+  take-out = λ s office out x. shows-keep _ _ _ (taken-one s (office - 1) 1) (λ z. never-missing (office-some s (sheet-passed s _ z) (office - 1))) out x;
   join = λ a b out x. joins-keep a b out x;
   join-files = λ f g out x. files-keep f g out x;
   opened = as-words;
   counter-1 = λ f q x. file-says f _ _ x;
   counter-2 = λ f q x. file-says f _ _ x;
-  counter-3 = λ f q out x. shows-keep _ _ (bytes-one (WitnessOf (wordsOf f) q) (witness-one (asked (wordsOf f) q) (sideOf (q .kind)) (q .person) (q .deed) (q .folio))) out x;
+  counter-3 = λ f q out x. shows-keep _ _ _ (bytes-one (WitnessOf (wordsOf f) q) (witness-one (asked (wordsOf f) q) (sideOf (q .kind)) (q .person) (q .deed) (q .folio))) (λ z. no-path-bytes f q) out x;
+  writing = writer-keeps;
   look-up = look;
-  look-up-place = lookup-says;
+  look-up-row = look-row;
+  look-up-place = λ a b k x. (lookup-says a b k x, told-is _ _ x);
 }
 
 pub demand-2 : Demand2
 demand-2 = record {
+  paths = λ s q. a1-a2 (asked s q) (q .person) (q .deed) (q .folio);
   answers = λ after s q x z.
       let p = told-is _ _ x z .0 in
       (four (asked s q) (q .person) (q .deed) (q .folio) _ p, gives-exactly (asked s q) (q .person) (q .deed) (q .folio) _ p);
@@ -103,42 +199,17 @@ demand-2 = record {
   priority = λ after s q x z. by-priority (seenAt s) (officesOf s) (q .person) (q .deed) (q .folio) (q .rule) _ _ (told-is _ _ x z);
   applicable = λ after s q x z. by-order (seenAt s) (officesOf s) (q .person) (q .deed) (q .folio) (q .rule) _ _ (told-is _ _ x z);
   shortest = λ s q out x z. let w = front-is _ _ out x z in (w .holds, w .first);
-  refused-only = λ s q out x z.
-      let w = missing-only _ _ out z x in
-      (λ e. none-first (PathOf s q) (w .0 e), λ u. w .1 (λ ws y. u ws (y .holds)));
+  refused-only = path-refused;
   shortest-bytes = λ f q out x z. in-bytes-of (WitnessOf (wordsOf f) q) _ (λ ws w. (w .holds, w .first)) _ (front-is _ _ out x z);
-  refused-only-bytes = λ f q out x z.
-      let w = missing-only _ _ out z x in
-      let n = none-in-bytes (WitnessOf (wordsOf f) q) in
-      (λ e. none-first (PathOf (wordsOf f) q) (n .0 (w .0 e)), λ u. w .1 (n .1 (λ ws y. u ws (y .holds))));
+  refused-only-bytes = path-refused-bytes;
   is-path = λ s q list x z. (yes-is _ _ (told-is _ _ x z .0), no-is _ _ (told-is _ _ x z .0));
   persons-in-category = λ s q out x. front-is _ _ out x;
   persons-with-grant = λ s q out x. front-is _ _ out x;
   folios-out-of-reach = λ s q out x. front-is _ _ out x;
   redundant-edges = λ s q out x. front-is _ _ out x;
-  least-triple = λ s q out x. (
-    front-is _ _ out x,
-    λ z.
-        let w = missing-only _ _ out z x in
-        (λ e. none-least 3 (BothAt (asked s q)) (λ ws y. ap length (y .words)) (w .0 e), λ u. w .1 (λ ws y. u ws (y .holds))),
-  );
-  least-holder = λ s q out x. (
-    front-is _ _ out x,
-    λ z.
-        let w = missing-only _ _ out z x in
-        (λ e. none-least 2 (HoldsBoth (asked s q) (q .deed) (q .other)) (λ ws y. ap length (y .words)) (w .0 e), λ u. w .1 (λ ws y. u ws (y .holds))),
-  );
+  least-triple = λ s q out x. front-is _ _ out x;
+  least-holder = λ s q out x. front-is _ _ out x;
 }
-
--- nothing refuses two sheets of one office whose union keeps the limits and fits
-none-refuses : (a b : List ℕ) (room : ℕ) → Sheet 1 a → Sheet 1 b → unionNodes a b ≤ maxNodes → unionEdges a b ≤ maxEdges → sheetWords (unionNodes a b) (unionEdges a b) ≤ room
-    → joinFault a b room .number ≡ 0
-unfolding joinFault
-none-refuses a b room v w n e l =
-    ap (λ (r : Refusal). r .number) (then-none (sheetsFault a b) (unionFault a b room)
-    (sym (none-refused a b (verdict 1 a) refl (ap (λ (f : Refusal). f .number) (not-refused 1 a (v .formed))) (verdict 2 b) refl
-    (ap (λ (f : Refusal). f .number) (not-refused 2 b (w .formed))) (headerOf a) refl (v .count) (headerOf b) refl _ refl (w .count))))
-    ∙ union-passes a b _ _ room (in-none _ _ room n e l) refl refl
 
 -- a joint sheet is the union
 union-of : (a b j : List ℕ) → Sheet 1 a → Sheet 1 b → IsJoin a b j → Union a b j
@@ -150,15 +221,17 @@ union-of a b j v w x =
       offices = x;
     }
 
-joint-of : (a b out : List ℕ) {r : Joined} {out′ : List ℕ} → Sheet 1 a → Sheet 1 b → joinFault a b (length out) .number ≡ 0 → Joining a b out r out′ → (r .number ≡ 0) × JointSheet a b out r out′
-joint-of a b out v w z (not-joined h) = absurd (h z)
-joint-of a b out v w z (joined j y x n e l) = (
+joint-of : (spelled : List ℕ → List ℕ) (refusal : Refusal) (a b out : List ℕ) {r : Joined} {out′ : List ℕ} → Sheet 1 a → Sheet 1 b → refusal .number ≡ 0 → JoinsAs spelled refusal a b out r out′ → (r .number ≡ 0) × JointSheet spelled a b out r out′
+joint-of spelled refusal a b out v w z (not-joined h) = absurd (h z)
+joint-of spelled refusal a b out v w z (joined j y x n e l) = (
   refl,
   record {
     sheet = j;
     union = union-of a b j v w x;
     holds = refl;
     words = refl;
+    counts = (refl, refl);
+    rows = (nodes-union a b j (v .formed) (w .formed) x, edges-union a b j (v .formed) (w .formed) x);
     nodes = n;
     edges = e;
     shared-nodes = refl;
@@ -168,10 +241,21 @@ joint-of a b out v w z (joined j y x n e l) = (
   },
 )
 
+-- nothing refuses two files whose words nothing refuses
+none-refuses-files : (f g : List ℕ) (room : ℕ) → bytesVerdict 1 f ≡ none → bytesVerdict 2 g ≡ none → joinFault (wordsOf f) (wordsOf g) (room / 4) .number ≡ 0 → filesFault f g room .number ≡ 0
+unfolding filesFault
+none-refuses-files f g room v w z = ap (λ (r : Refusal). r .number) (then-none (bytesVerdict 1 f) _ v ∙ then-none (bytesVerdict 2 g) _ w) ∙ z
+
 pub demand-3 : Demand3
 demand-3 = record {
-  joins = λ a b out v w n e l. joint-of a b out v w (none-refuses a b (length out) v w n e l);
+  joins = λ a b out v w f. joint-of (λ j. j) _ a b out v w (none-refuses a b (length out) v w f);
+  joins-files = λ f g out v w one other fits.
+      let a : Sheet 1 (wordsOf f) = record { formed = file-formed 1 f .0 v .2; count = one } in
+      let b : Sheet 1 (wordsOf g) = record { formed = file-formed 2 g .0 w .2; count = other } in
+      joint-of bytesOf _ (wordsOf f) (wordsOf g) out a b (none-refuses-files f g (length out) v w (none-refuses (wordsOf f) (wordsOf g) (length out / 4) a b fits));
   no-two-pairs = no-two-pairs;
-  joins-again = λ s p q out v x y room. joins-again s p q (v .formed) (v .count) x y out room;
-  combined = λ a b j q v w x known. asked-combined a b j x (v .formed) (w .formed) (v .count) (w .count) q known;
+  takes-out = takes-out;
+  joins-again = joins-again;
+  combined = asked-combined;
+  combined-within = asked-within;
 }

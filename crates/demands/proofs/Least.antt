@@ -3,7 +3,7 @@
 use Prim.Native.Nat.{ℕ, zero, suc, _<_}
 use mathlib.Core.Path.{_≡_, refl, sym, subst, _∙_}
 use mathlib.Core.Bool.{Bool, true, false, true≢false, _&&_}
-use mathlib.Core.Logic.{_⊎_, inl, inr}
+use mathlib.Core.Logic.{_↔_, _⊎_, inl, inr}
 use mathlib.Core.List.{List, [], _∷_}
 use native.Mathlib.Omega.{arith}
 use lib.Dec.{eqb, ltb}
@@ -13,6 +13,7 @@ use Rattle.tables.specs.Key.{belowKey}
 use Rattle.tables.proofs.Keys.{Ahead, first, rest, ahead}
 use Rattle.paths.proofs.Tests.{and-left, and-right, or-cases}
 use Rattle.meaning.specs.Forms.{FirstIs, fewer}
+use Rattle.demands.specs.Demands.{NoSuch}
 
 -- there are no words of P before xs
 abbrev NoneBefore : (List ℕ → List ℕ → Bool) → (List ℕ → Type 0) → List ℕ → Type 0
@@ -76,10 +77,13 @@ none-fewest P un (suc n) xs l p =
     none-lowest (length xs) (λ zs. P zs × (length zs ≡ length xs))
     (λ zs q none. un zs (q .0) (before-fewer P (length xs) (λ ys h. none-fewest P un n ys (omega (arith, h, l))) zs (q .1) none)) xs refl (p, refl)
 
--- where there is no first, there is none: of words in the order of paths
-pub none-first : (P : List ℕ → Type 0) → ((ws : List ℕ) → FirstIs fewer P ws → ⊥) → (ws : List ℕ) → P ws → ⊥
-none-first P un ws p = none-fewest P (λ xs q none. un xs (first-is fewer P xs q none)) (suc (length ws)) ws (omega arith) p
+-- where there is no first, there is none, and the other way round: of words in the order of paths
+pub none-first : (P : List ℕ → Type 0) → NoSuch (FirstIs fewer P) ↔ NoSuch P
+none-first P = (λ un ws p. none-fewest P (λ xs q none. un xs (first-is fewer P xs q none)) (suc (length ws)) ws (omega arith) p, λ none ws x. none ws (x .holds))
 
 -- and of words that are all of one length
-pub none-least : (n : ℕ) (P : List ℕ → Type 0) → ((ws : List ℕ) → P ws → length ws ≡ n) → ((ws : List ℕ) → FirstIs belowKey P ws → ⊥) → (ws : List ℕ) → P ws → ⊥
-none-least n P long un ws p = none-lowest n P (λ xs q none. un xs (first-is belowKey P xs q (λ ys b r. none ys (long ys r ∙ sym (long xs q)) b r))) ws (long ws p) p
+pub none-least : (n : ℕ) (P : List ℕ → Type 0) → ((ws : List ℕ) → P ws → length ws ≡ n) → NoSuch (FirstIs belowKey P) ↔ NoSuch P
+none-least n P long = (
+  λ un ws p. none-lowest n P (λ xs q none. un xs (first-is belowKey P xs q (λ ys b r. none ys (long ys r ∙ sym (long xs q)) b r))) ws (long ws p) p,
+  λ none ws x. none ws (x .holds),
+)

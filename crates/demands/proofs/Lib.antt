@@ -1,4 +1,11 @@
+pub mod Counting
+pub mod Together
 pub mod Keeping
+pub mod Existing
 pub mod Least
 pub mod Answering
 pub mod Holding
+pub mod MistakesOfRefusals
+pub mod MistakesOfAnswers
+pub mod MistakesOfJoining
+pub mod Reading

@@ -10,20 +10,21 @@ use Rattle.tables.specs.Marks.{marked}
 use Rattle.tables.proofs.Marks.{marked-first, marked-second}
 use Rattle.tables.proofs.Alike.{marks-bounded}
 use Rattle.sheet.specs.declared.Header.{Header}
-use Rattle.sheet.specs.Limits.{maxNodes, maxEdges, sheetWords}
+use Rattle.sheet.specs.Limits.{maxNodes, mostEdges, sheetWords}
 use Rattle.sheet.specs.Rows.{headerOf, edgeTable}
 use Rattle.sheet.specs.Accepted.{WellFormed, Accepted}
 use Rattle.sheet.specs.Named.{nodeRow, tablesOf}
 use Rattle.sheet.proofs.Naming.{nodes-rise, edges-rise, marks-held}
 use Rattle.meaning.specs.Join.{officesOf, IsJoin}
-use Rattle.combine.specs.declared.Part.the-variants.{Nodes, Edges}
+use Rattle.sheet.specs.declared.Half.the-variants.{Nodes, Edges}
+use Rattle.sheet.proofs.Widths.{edges-few}
 use Rattle.combine.specs.declared.Rule.the-variants.{Beside}
 use Rattle.combine.specs.declared.Measure.{Measure}
 use Rattle.combine.specs.Combined.{Making, keys}
-use Rattle.combine.specs.SheetTables.{rowAt}
+use Rattle.sheet.specs.Named.{rowAt}
 use Rattle.combine.specs.Sheets.{IsCombined, Pair, Measured, Laid}
 use Rattle.combine.proofs.Counting.{kept-both}
-use Rattle.combine.proofs.Reading.{part-table}
+use Rattle.combine.proofs.Reading.{half-table}
 use Rattle.combine.proofs.Ruling.{beside-pair}
 use Rattle.join.specs.declared.Joined.{Joined}
 use Rattle.join.specs.Joins.{sharedNodes, sharedEdges, unionNodes, unionEdges, tooMuch, unionFault, madeJoin, Joins, joined}
@@ -56,8 +57,8 @@ join-is a b j va vb shift offices C =
     joint o m x y e = ap (λ (z : ℕ). marked z o) (e ∙ ap (λ (z : ℕ). x + z * y) shift)
 
 -- a sheet's rows are within the limits
-pub limits : (s : List ℕ) (h : Header) → Joinable s h → (h .nodes ≤ maxNodes) × (h .edges ≤ maxEdges)
-limits s h J = let f = J .accepted .nodes .header in let n = ap (λ (x : Header). x .nodes) (J .head) in let e = ap (λ (x : Header). x .edges) (J .head) in (omega arith, omega arith)
+pub limits : (s : List ℕ) (h : Header) → Joinable s h → (h .nodes ≤ maxNodes) × (h .edges ≤ mostEdges)
+limits s h J = let f = J .accepted .nodes .header in let l = edges-few _ _ f in let n = ap (λ (x : Header). x .nodes) (J .head) in let e = ap (λ (x : Header). x .edges) (J .head) in (omega arith, omega arith)
 
 module _ (a : List ℕ) (h : Header) (A : Joinable a h) (b : List ℕ) (g : Header) (B : Joinable b g) where
   first-formed : WellFormed a (edgeTable a) h
@@ -75,13 +76,13 @@ module _ (a : List ℕ) (h : Header) (A : Joinable a h) (b : List ℕ) (g : Head
     unfolding sharedNodes nodeRow
     nodes-count =
         let z : sharedNodes a b ≡ shared (h .nodes) (keys (rowAt Nodes a)) (g .nodes) (keys (rowAt Nodes b)) = λ i. shared (sym (A .head) i .nodes) (keys (rowAt Nodes a)) (sym (B .head) i .nodes) (keys (rowAt Nodes b)) in
-        omega (arith, M .node-rows .count, kept-both beside (h .nodes) (rowAt Nodes a) (part-table a h first-formed Nodes) (g .nodes) (rowAt Nodes b) (part-table b g second-formed Nodes) (λ x y l. omega arith) (λ y l. omega arith))
+        omega (arith, M .node-rows .count, kept-both beside (h .nodes) (rowAt Nodes a) (half-table a h first-formed Nodes) (g .nodes) (rowAt Nodes b) (half-table b g second-formed Nodes) (λ x y l. omega arith) (λ y l. omega arith))
 
     edges-count : m .edges + sharedEdges a b ≡ h .edges + g .edges
     unfolding sharedEdges
     edges-count =
         let z : sharedEdges a b ≡ shared (h .edges) (keys (rowAt Edges a)) (g .edges) (keys (rowAt Edges b)) = λ i. shared (sym (A .head) i .edges) (keys (rowAt Edges a)) (sym (B .head) i .edges) (keys (rowAt Edges b)) in
-        omega (arith, M .edge-rows, kept-both beside (h .edges) (rowAt Edges a) (part-table a h first-formed Edges) (g .edges) (rowAt Edges b) (part-table b g second-formed Edges) (λ x y l. omega arith) (λ y l. omega arith))
+        omega (arith, M .edge-rows, kept-both beside (h .edges) (rowAt Edges a) (half-table a h first-formed Edges) (g .edges) (rowAt Edges b) (half-table b g second-formed Edges) (λ x y l. omega arith) (λ y l. omega arith))
 
     same : (h .nodes ≡ headerOf a .nodes) × (g .nodes ≡ headerOf b .nodes) × (h .edges ≡ headerOf a .edges) × (g .edges ≡ headerOf b .edges)
     same = (ap (λ (x : Header). x .nodes) (A .head), ap (λ (x : Header). x .nodes) (B .head), ap (λ (x : Header). x .edges) (A .head), ap (λ (x : Header). x .edges) (B .head))
@@ -97,8 +98,8 @@ module _ (a : List ℕ) (h : Header) (A : Joinable a h) (b : List ℕ) (g : Head
     pub few : (m .nodes ≤ h .nodes + g .nodes) × (m .edges ≤ h .edges + g .edges)
     few = (omega (arith, nodes-count), omega (arith, edges-count))
 
-    pub joined-laid : (out out′ : List ℕ) → 0 ≡ tooMuch (m .nodes) (m .edges) (length out) → Laid (Beside jointShift) (Beside jointShift) jointOffices a h b g m out out′
-        → (x : Joined) → x ≡ record { number = 0; sheet = 0; row = 0; words = sheetWords (m .nodes) (m .edges); nodes = m .nodes; edges = m .edges; sharednodes = h .nodes + g .nodes - m .nodes; sharededges = h .edges + g .edges - m .edges }
+    pub joined-laid : (out out′ : List ℕ) → 0 ≡ tooMuch (h .form) (m .nodes) (m .edges) (length out) → Laid (Beside jointShift) (Beside jointShift) jointOffices a h b g m out out′
+        → (x : Joined) → x ≡ record { number = 0; sheet = 0; row = 0; words = sheetWords (h .form) (m .nodes) (m .edges); nodes = m .nodes; edges = m .edges; sharednodes = h .nodes + g .nodes - m .nodes; sharededges = h .edges + g .edges - m .edges }
         → Joins (unionFault a b (length out)) a b out x out′
     joined-laid out out′ z L x q =
         let j = L .sheet in
@@ -106,7 +107,7 @@ module _ (a : List ℕ) (h : Header) (A : Joinable a h) (b : List ℕ) (g : Head
         let jn = L .rows .0 in
         let je = L .rows .1 in
         let s = same in
-        let l = within-limits (m .nodes) (m .edges) (length out) z in
+        let l = within-limits (h .form) (m .nodes) (m .edges) (length out) z in
         let sn : h .nodes + g .nodes - m .nodes ≡ sharedNodes a b = omega (arith, nodes-count) in
         let se : h .edges + g .edges - m .edges ≡ sharedEdges a b = omega (arith, edges-count) in
         let told : x ≡ madeJoin a b j = q ∙ (λ i. record { number = 0; sheet = 0; row = 0; words = sym long i; nodes = sym jn i; edges = sym je i; sharednodes = sn i; sharededges = se i }) in
@@ -114,6 +115,6 @@ module _ (a : List ℕ) (h : Header) (A : Joinable a h) (b : List ℕ) (g : Head
         let ob : officesOf b ≡ 1 = ap (λ (y : Header). y .offices) (sym (B .head)) ∙ B .one in
         subst (λ (w : List ℕ). Joins (unionFault a b (length out)) a b out x w) (sym (L .holds))
         (subst (λ (y : Joined). Joins (unionFault a b (length out)) a b out y (j ++ drop (length j) out)) (sym told)
-        (joined j (union-passes a b (m .nodes) (m .edges) (length out) z nodes-union edges-union)
+        (joined j (union-passes a b (h .form) (m .nodes) (m .edges) (length out) z (ap (λ (y : Header). y .form) (A .head)) nodes-union edges-union)
         (join-is a b j (A .accepted) (B .accepted) (sym (ap (λ (o : ℕ). 2 ^ o) oa)) (omega arith) (L .is))
         (omega (arith, nodes-count)) (omega (arith, edges-count)) (omega (arith, l .2))))

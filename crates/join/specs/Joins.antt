@@ -40,11 +40,11 @@ unfoldable pub notOne : List ℕ → ℕ
 notOne s = 28 when not (officesOf s is 1) otherwise 0
 
 -- 29 / 30 union above 512 nodes / 2,048 edges; 25 output shorter than the result
-unfoldable pub tooMuch : ℕ → ℕ → ℕ → ℕ
-tooMuch nodes edges room =
+unfoldable pub tooMuch : ℕ → ℕ → ℕ → ℕ → ℕ
+tooMuch form nodes edges room =
     29 when maxNodes below nodes otherwise
-    30 when maxEdges below edges otherwise
-    25 when room below sheetWords nodes edges otherwise
+    30 when maxEdges form below edges otherwise
+    25 when room below sheetWords form nodes edges otherwise
     0
 
 -- the first sheet's refusal, the second's, then 28, first sheet first
@@ -53,7 +53,7 @@ sheetsFault a b = verdict 1 a then (verdict 2 b then refuse (notOne a) 1 0 (refu
 
 -- what a union of so many rows is refused by
 unfoldable pub unionFault : List ℕ → List ℕ → ℕ → Refusal
-unionFault a b room = refuse (tooMuch (unionNodes a b) (unionEdges a b) room) 0 0 none
+unionFault a b room = refuse (tooMuch (headerOf a .form) (unionNodes a b) (unionEdges a b) room) 0 0 none
 
 -- what joining is refused by, in the table's order
 unfoldable pub joinFault : List ℕ → List ℕ → ℕ → Refusal

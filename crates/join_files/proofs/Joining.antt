@@ -13,13 +13,16 @@ use Rattle.sheet.specs.declared.Refusal.{Refusal}
 use Rattle.sheet.specs.Limits.{maxNodes, maxEdges, maxWords, maxBytes, sheetWords}
 use Rattle.sheet.specs.Refusals.{_when_otherwise_, none, refuse, _then_, written, Writes}
 use Rattle.sheet.specs.Rows.{headerOf}
+use Rattle.sheet.specs.Accepted.{Accepted}
+use Rattle.sheet.proofs.Forming.{one-form}
+use Rattle.sheet.proofs.Widths.{few}
 use Rattle.sheet.proofs.Refusing.{refuse-good, then-good, then-some-is, then-none-is}
 use Rattle.sheet.proofs.Writing.{short-lacks, writes-room}
 use Rattle.files.specs.Bytes.{wordsOf, bytesOf, bytesVerdict}
 use Rattle.files.proofs.Words.{words-long, bytes-long, bytes-good, decoded}
 use Rattle.join.specs.declared.Joined.{Joined}
 use Rattle.join.specs.Joins.{sharedNodes, sharedEdges, unionNodes, unionEdges, tooMuch, sheetsFault, unionFault, joinFault, refusedJoin, madeJoin, Joins, refused, joined}
-use Rattle.join.proofs.Refusing.{joins-refused, in-25, in-none, within-limits, too-much-is, union-passes}
+use Rattle.join.proofs.Refusing.{first-opens, joins-refused, in-25, in-none, within-limits, too-much-is, union-passes}
 use Rattle.meaning.specs.Join.{IsJoin}
 use Rattle.join_files.specs.JoinedFiles.{filesFault, JoinsBytes, JoinsFiles}
 
@@ -32,13 +35,13 @@ third-line true q s t h z = refl
 third-line false true s t h z = refl
 third-line false false s t h z = absurd (z (ap (λ (x : Bool). 25 when x otherwise 0) (h refl refl)))
 
-any-room : (n e room : ℕ) → (tooMuch n e maxWords ≡ 0 → ⊥) → tooMuch n e maxWords ≡ tooMuch n e room
+any-room : (form n e room : ℕ) → (tooMuch form n e maxWords ≡ 0 → ⊥) → tooMuch form n e maxWords ≡ tooMuch form n e room
 unfolding tooMuch
-any-room n e room z = third-line _ _ _ _ (λ p q. le-ltb maxWords (sheetWords n e) (omega (arith, ltb-false maxNodes n p, ltb-false maxEdges e q))) z
+any-room form n e room z = third-line _ _ _ _ (λ p q. le-ltb maxWords (sheetWords form n e) (omega (arith, ltb-false maxNodes n p, few form e (ltb-false (maxEdges form) e q) .1))) z
 
 union-any-room : (a b : List ℕ) (room : ℕ) → (unionFault a b maxWords .number ≡ 0 → ⊥) → unionFault a b maxWords ≡ unionFault a b room
 unfolding unionFault refuse
-union-any-room a b room z = ap (λ (k : ℕ). refuse k 0 0 none) (any-room (unionNodes a b) (unionEdges a b) room (λ q. z (ap (λ (k : ℕ). refuse k 0 0 none .number) q)))
+union-any-room a b room z = ap (λ (k : ℕ). refuse k 0 0 none) (any-room (headerOf a .form) (unionNodes a b) (unionEdges a b) room (λ q. z (ap (λ (k : ℕ). refuse k 0 0 none .number) q)))
 
 refuse-same : (k p i : ℕ) (w w′ : Refusal) → (refuse k p i w .number ≡ 0 → ⊥) → ((w .number ≡ 0 → ⊥) → w ≡ w′) → refuse k p i w ≡ refuse k p i w′
 unfolding refuse
@@ -52,31 +55,41 @@ module _ (a b : List ℕ) (room : ℕ) where
 
   -- where nothing refuses a join with room for any sheet, the room alone decides
   module _ (z : joinFault a b maxWords .number ≡ 0) where
-    passed : (sheetsFault a b .number ≡ 0) × (unionNodes a b ≤ maxNodes) × (unionEdges a b ≤ maxEdges)
+    passed : (sheetsFault a b .number ≡ 0) × (unionNodes a b ≤ maxNodes) × (unionEdges a b ≤ maxEdges (headerOf a .form))
     unfolding joinFault unionFault
     passed =
         let t = then-good _ _ z in
-        let u = within-limits _ _ _ (sym (refuse-good _ 0 0 none (t .1) .0)) in
+        let u = within-limits _ _ _ _ (sym (refuse-good _ 0 0 none (t .1) .0)) in
         (t .0, u .0, u .1)
 
     past : unionFault a b room ≡ joinFault a b room
     unfolding joinFault
     past = then-none-is (sheetsFault a b) (sheetsFault a b) _ _ refl (passed .0) refl
 
-    pub fits : sheetWords (unionNodes a b) (unionEdges a b) ≤ room → joinFault a b room .number ≡ 0
-    fits l = ap (λ (r : Refusal). r .number) (sym past) ∙ union-passes a b _ _ room (in-none _ _ room (passed .1) (passed .2) l) refl refl
+    -- the joint sheet is of the first sheet's form
+    form-kept : (j : List ℕ) → Accepted j → headerOf j .form ≡ headerOf a .form
+    form-kept j v = one-form j a v (first-opens a b (sheetsFault a b) refl (passed .0) (headerOf a) refl .accepted)
 
-    lacks : room < sheetWords (unionNodes a b) (unionEdges a b) → record { number = 25; sheet = 0; row = 0 } ≡ joinFault a b room
-    lacks l = too-much-is a b _ _ room 25 (in-25 _ _ room (passed .1) (passed .2) l) refl refl (λ q. omega (arith, q)) ∙ past
+    pub fits : sheetWords (headerOf a .form) (unionNodes a b) (unionEdges a b) ≤ room → joinFault a b room .number ≡ 0
+    fits l = ap (λ (r : Refusal). r .number) (sym past) ∙ union-passes a b _ _ _ room (in-none _ _ _ room (passed .1) (passed .2) l) refl refl refl
+
+    lacks : room < sheetWords (headerOf a .form) (unionNodes a b) (unionEdges a b) → record { number = 25; sheet = 0; row = 0 } ≡ joinFault a b room
+    lacks l = too-much-is a b _ _ _ room 25 (in-25 _ _ _ room (passed .1) (passed .2) l) refl refl refl (λ q. omega (arith, q)) ∙ past
 
 -- ---- the joint sheet's bytes
 
-joint-long : (a b j : List ℕ) → IsJoin a b j
+joint-long : (a b j : List ℕ) → IsJoin a b j → headerOf j .form ≡ headerOf a .form
     → headerOf j .nodes + sharedNodes a b ≡ headerOf a .nodes + headerOf b .nodes
     → headerOf j .edges + sharedEdges a b ≡ headerOf a .edges + headerOf b .edges
-    → length j ≡ sheetWords (unionNodes a b) (unionEdges a b)
+    → length j ≡ sheetWords (headerOf a .form) (unionNodes a b) (unionEdges a b)
 unfolding unionNodes unionEdges
-joint-long a b j i n e = omega (arith, i .accepted .nodes .header .whole, n, e)
+joint-long a b j i f n e = i .accepted .nodes .header .whole ∙ (λ x. sheetWords (f x) (nodes x) (edges x))
+  where
+    nodes : headerOf j .nodes ≡ headerOf a .nodes + headerOf b .nodes - sharedNodes a b
+    nodes = omega (arith, n)
+
+    edges : headerOf j .edges ≡ headerOf a .edges + headerOf b .edges - sharedEdges a b
+    edges = omega (arith, e)
 
 -- a writer whose result does not fit
 lacking : (result out : List ℕ) (r : Refusal) (o : List ℕ) → Writes none result out r o → length out < length result → (r ≡ record { number = 25; sheet = 0; row = 0 }) × (o ≡ out)
@@ -106,8 +119,8 @@ module _ (a b w : List ℕ) where
         bytes : Writes none (bytesOf j) out x out′
         bytes = subst (λ (v : List ℕ). Writes none (bytesOf v) out x out′) (take-at j (drop (length j) w) (length j - 0) (omega arith)) y
 
-        long : length (bytesOf j) ≡ 4 * sheetWords (unionNodes a b) (unionEdges a b)
-        long = bytes-long j ∙ ap (λ (k : ℕ). 4 * k) (joint-long a b j i n e)
+        long : length (bytesOf j) ≡ 4 * sheetWords (headerOf a .form) (unionNodes a b) (unionEdges a b)
+        long = bytes-long j ∙ ap (λ (k : ℕ). 4 * k) (joint-long a b j i (form-kept a b maxWords q j (i .accepted)) n e)
 
         go : Dec (length out < length (bytesOf j)) → (x .number ≡ 0 → Tells (madeJoin a b j)) × ((x .number ≡ 0 → ⊥) → Tells (refusedJoin x))
         go (yes k) =

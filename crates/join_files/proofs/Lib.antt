@@ -2,3 +2,4 @@ pub mod Joining
 pub mod Reporting
 pub mod Single
 pub mod Ships
+pub mod Mistakes

@@ -15,7 +15,7 @@ ghost use Prim.Native.Nat.{_<_, _≤_};
 ghost use lib.ListN.{length};
 ghost use mathlib.Core.List.{[], _∷_};
 ghost use Rattle.tables.specs.Count.{numberOf};
-ghost use Rattle.sheet.specs.Limits.{maxNodes, maxEdges};
+ghost use Rattle.sheet.specs.Limits.{maxNodes, mostEdges};
 ghost use Rattle.sheet.specs.Refusals.{_is_};
 ghost use Rattle.sheet.specs.Rows.{nodeAt};
 ghost use Rattle.sheet.specs.Accepted.{NodesFormed, WellFormed};
@@ -237,7 +237,7 @@ pub fn least_holder_at(
     q: Question,
     list: &mut [u32],
 ) -> u32
-    requires { ⌜ AtSeat (now sheet) (now edges) h seat × (length (now list) ≡ maxEdges) ⌝ }
+    requires { ⌜ AtSeat (now sheet) (now edges) h seat × (length (now list) ≡ mostEdges) ⌝ }
     ensures { λ r. ⌜ Finds (LeastHolderIs (seenFrom (now (sheet .entry)) seat) (q .deed) (q .other)) (now (list .exit)) r ⌝ }
 {
     let w = walk::walk_of(seat, GRANT, 0);
@@ -292,7 +292,7 @@ fn first_both(
 
 // Question 8 from the seat: the least (person, deed, folio) that is Both, as three words.
 pub fn least_triple_at(sheet: &[u32], edges: &[u32], h: Header, seat: Seat, list: &mut [u32]) -> u32
-    requires { ⌜ AtSeat (now sheet) (now edges) h seat × (length (now list) ≡ maxEdges) ⌝ }
+    requires { ⌜ AtSeat (now sheet) (now edges) h seat × (length (now list) ≡ mostEdges) ⌝ }
     ensures { λ r. ⌜ Finds (LeastTripleIs (seenFrom (now (sheet .entry)) seat)) (now (list .exit)) r ⌝ }
 {
     let grants = walk::walk_of(seat, GRANT, 0);

@@ -18,7 +18,7 @@ ghost use mathlib.Core.List.{_++_};
 ghost use Rattle.tables.specs.Count.{numberOf};
 ghost use Rattle.tables.specs.Marks.{marked};
 ghost use Rattle.sheet.specs.Kinds.{personType, deedType};
-ghost use Rattle.sheet.specs.Limits.{maxNodes, maxEdges};
+ghost use Rattle.sheet.specs.Limits.{maxNodes, mostEdges};
 ghost use Rattle.sheet.specs.Refusals.{_is_, _when_otherwise_, none};
 ghost use Rattle.sheet.specs.Rows.{headerOf, nodeAt};
 ghost use Rattle.sheet.specs.Accepted.{NodesFormed, WellFormed};
@@ -72,7 +72,7 @@ fn numbers_of(
     d: [u32; ROWS],
     list: &mut [u32],
 ) -> u32
-    requires { ⌜ NodesFormed (now sheet) h × Seated seat × (class ≡ deedType → ⊥) × (length d ≡ maxNodes) × (length (now list) ≡ maxEdges) ⌝ }
+    requires { ⌜ NodesFormed (now sheet) h × Seated seat × (class ≡ deedType → ⊥) × (length d ≡ maxNodes) × (length (now list) ≡ mostEdges) ⌝ }
     ensures { λ r. ⌜ Finds (Rising (PickedNumber (now (sheet .entry)) (h .nodes) (seat .office) class reached d)) (now (list .exit)) r ⌝ }
 {
     let rows = h.nodes;
@@ -143,7 +143,7 @@ fn persons_to(
     to: u32,
     list: &mut [u32],
 ) -> u32
-    requires { ⌜ AtSeat (now sheet) (now edges) h seat × (to < h .nodes) × (length (now list) ≡ maxEdges) ⌝ }
+    requires { ⌜ AtSeat (now sheet) (now edges) h seat × (to < h .nodes) × (length (now list) ≡ mostEdges) ⌝ }
     ensures { λ r. ⌜ Finds (Rising (PersonLeads (now (sheet .entry)) (now (edges .entry)) h (seat .office) (walkOf seat 3 deed) to)) (now (list .exit)) r ⌝ }
 {
     let w = walk::walk_of(seat, GRANT, deed);
@@ -161,7 +161,7 @@ fn persons_in_category_at(
     q: Question,
     list: &mut [u32],
 ) -> u32
-    requires { ⌜ AtSeat (now sheet) (now edges) h seat × (known (now sheet) false (seat .office) 2 (q .category) ≡ true) × (length (now list) ≡ maxEdges) ⌝ }
+    requires { ⌜ AtSeat (now sheet) (now edges) h seat × (known (now sheet) false (seat .office) 2 (q .category) ≡ true) × (length (now list) ≡ mostEdges) ⌝ }
     ensures { λ r. ⌜ Finds (PersonsInCategoryAre (seenFrom (now (sheet .entry)) seat) (q .category)) (now (list .exit)) r ⌝ }
 {
     let to = question::seek(sheet, h, false, seat, CATEGORY, q.category);
@@ -177,7 +177,7 @@ fn persons_with_grant_at(
     q: Question,
     list: &mut [u32],
 ) -> u32
-    requires { ⌜ AtSeat (now sheet) (now edges) h seat × (known (now sheet) false (seat .office) 3 (q .deed) ≡ true) × (known (now sheet) false (seat .office) 4 (q .folio) ≡ true) × (length (now list) ≡ maxEdges) ⌝ }
+    requires { ⌜ AtSeat (now sheet) (now edges) h seat × (known (now sheet) false (seat .office) 3 (q .deed) ≡ true) × (known (now sheet) false (seat .office) 4 (q .folio) ≡ true) × (length (now list) ≡ mostEdges) ⌝ }
     ensures { λ r. ⌜ Finds (PersonsWithGrantAre (seenFrom (now (sheet .entry)) seat) (q .deed) (q .folio)) (now (list .exit)) r ⌝ }
 {
     let to = question::seek(sheet, h, false, seat, FOLIO, q.folio);
@@ -229,7 +229,7 @@ fn folios_out_of_reach_at(
     seat: Seat,
     list: &mut [u32],
 ) -> u32
-    requires { ⌜ AtSeat (now sheet) (now edges) h seat × (length (now list) ≡ maxEdges) ⌝ }
+    requires { ⌜ AtSeat (now sheet) (now edges) h seat × (length (now list) ≡ mostEdges) ⌝ }
     ensures { λ r. ⌜ Finds (FoliosOutOfReachAre (seenFrom (now (sheet .entry)) seat)) (now (list .exit)) r ⌝ }
 {
     let w = walk::walk_of(seat, GRANT, 0);
@@ -355,7 +355,7 @@ fn found(
     q: Question,
     list: &mut [u32],
 ) -> u32
-    requires { ⌜ AtSeat (now sheet) (now edges) h seat × (seat ≡ seatFor q) × (soughtFault number (now sheet) q ≡ 0) × (length (now list) ≡ maxEdges) ⌝ }
+    requires { ⌜ AtSeat (now sheet) (now edges) h seat × (seat ≡ seatFor q) × (soughtFault number (now sheet) q ≡ 0) × (length (now list) ≡ mostEdges) ⌝ }
     ensures { λ r. ⌜ Finds (soughtIs number (now (sheet .entry)) q) (now (list .exit)) r ⌝ }
 {
     if number == 5 {

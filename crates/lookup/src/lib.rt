@@ -12,7 +12,7 @@ ghost use Rattle.sheet.specs.Accepted.{Accepted};
 ghost use Rattle.lookup.specs.Looked.{neither, lookFault, LooksUp, PlacesIdentity, StandsAt};
 
 // Where the words of an identity's row start; the length where no row has it.
-fn place_in(sheet: &[u32], wanted: Node) -> usize
+fn word_place(sheet: &[u32], wanted: Node) -> usize
     requires { ⌜ Accepted (now sheet) ⌝ }
     ensures { λ r. ⌜ StandsAt (now (sheet .entry)) (nodeKey wanted) r ⌝ }
 {
@@ -28,11 +28,11 @@ fn missing_in(first: &[u32], second: &[u32], wanted: Node) -> u32
     requires { ⌜ Accepted (now first) × Accepted (now second) ⌝ }
     ensures { λ r. ⌜ r ≡ neither (now (first .entry)) (now (second .entry)) (nodeKey wanted) ⌝ }
 {
-    let here = place_in(first, wanted);
+    let here = word_place(first, wanted);
     if here < first.len() {
         return 0;
     }
-    let there = place_in(second, wanted);
+    let there = word_place(second, wanted);
     if there < second.len() {
         return 0;
     }
@@ -73,12 +73,12 @@ pub fn look_up<'a>(
     if r.number != 0 {
         return &first[0..0];
     }
-    let i = place_in(first, wanted);
+    let i = word_place(first, wanted);
     if i < first.len() {
         let e = i + 4;
         return &first[i..e];
     }
-    let j = place_in(second, wanted);
+    let j = word_place(second, wanted);
     let f = j + 4;
     &second[j..f]
 }
@@ -100,11 +100,11 @@ pub fn look_up_place(first: &[u32], second: &[u32], class: u32, number: u32, var
     if r.number != 0 {
         return question::refused(r);
     }
-    let near = place_in(first, wanted);
+    let near = word_place(first, wanted);
     if near < first.len() {
         return question::told(1, row_from(near));
     }
-    let far = place_in(second, wanted);
+    let far = word_place(second, wanted);
     question::told(2, row_from(far))
 }
 

@@ -5,3 +5,4 @@ pub mod Rounds
 pub mod Trails
 pub mod Bounds
 pub mod Queues
+pub mod Mistakes

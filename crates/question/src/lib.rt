@@ -71,7 +71,7 @@ pub fn seek(sheet: &[u32], h: Header, any: bool, seat: Seat, class: u32, number:
 }
 
 // The mark of office k + 1.
-pub fn mark_of(k: u32) -> u32
+fn mark_of(k: u32) -> u32
     requires { ⌜ k < maxOffices ⌝ }
     ensures { λ r. ⌜ (r ≡ 2 ^ k) × (0 < r) ⌝ }
 {

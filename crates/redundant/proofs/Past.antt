@@ -12,7 +12,7 @@ use Rattle.tables.specs.Office.{View}
 use Rattle.sheet.specs.Kinds.{memberKind, containedKind}
 use Rattle.sheet.specs.declared.Edge.{Edge}
 use Rattle.sheet.specs.declared.Seat.{Seat}
-use Rattle.sheet.specs.Rows.{headerOf, nodeAt, edgeAt, edgeTable, nodeKeyAt}
+use Rattle.sheet.specs.Rows.{headerOf, nodeAt, edgeOf, edgeTable, nodeKeyAt}
 use Rattle.sheet.specs.Accepted.{Accepted}
 use Rattle.sheet.specs.Seats.{countsAt, seenFrom}
 use Rattle.paths.specs.Leads.{leads, Reach, here, more, Beyond}
@@ -45,7 +45,7 @@ module _ (s : List ℕ) (acc : Accepted s) (seat : Seat) (side : Side) (j : ℕ)
   g = seenFrom s seat
 
   abbrev edge : ℕ → Edge
-  edge i = edgeAt (edgeTable s) i
+  edge i = edgeOf s i
 
   abbrev from : ℕ
   from = edge j .from

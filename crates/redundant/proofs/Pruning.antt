@@ -13,7 +13,7 @@ use Rattle.sheet.specs.declared.Header.{Header}
 use Rattle.sheet.specs.declared.Edge.{Edge}
 use Rattle.sheet.specs.declared.Seat.{Seat}
 use Rattle.sheet.specs.Limits.{maxNodes}
-use Rattle.sheet.specs.Rows.{headerOf, edgeAt, edgeTable}
+use Rattle.sheet.specs.Rows.{headerOf, edgeAt, edgeOf, edgeTable}
 use Rattle.sheet.specs.Accepted.{WellFormed, Accepted}
 use Rattle.sheet.specs.Named.{edgeRow}
 use Rattle.sheet.specs.Seats.{countsAt}
@@ -27,6 +27,7 @@ use Rattle.walk.specs.declared.LeftOut.{LeftOut}
 use Rattle.walk.specs.Arcs.{takes, Steps, leavingOut}
 use Rattle.ask.proofs.Links.{walkFor, kind-of}
 use Rattle.sheet.proofs.Forming.{words-of}
+use Rattle.sheet.proofs.Reading.{row-under}
 use Rattle.redundant.specs.Pruned.{sideWalk, sideFor, stepOf, PastRow}
 use Rattle.reach.proofs.Collecting.{Collected, collected-all}
 use Rattle.redundant.proofs.Taking.{ownTest, own-test}
@@ -35,15 +36,15 @@ use Rattle.redundant.proofs.Past.{past-redundant, redundant-past}
 module _ (s : List ℕ) (seat : Seat) (j : ℕ) (dist : List ℕ) (b : Bool) where
   -- row j of the edge table t counts for the seat, and b says whether the walk's numbers reach its to end
   abbrev RowTested : List ℕ → Header → Type 0
-  RowTested t h = j < h .edges → countsAt seat (edgeAt t j) ≡ true → Layers (Steps s t (leavingOut (walkFor seat (sideFor (edgeAt t j .kind)) 0) (stepOf (edgeAt t j))) (h .edges)) (λ x. x ≡ edgeAt t j .from) dist
-      → b ≡ not (eqb (getD dist (edgeAt t j .to) 0) 0) → Says b (RedundantRow s (seat .office) j)
+  RowTested t h = j < h .edges → countsAt seat (edgeAt h t j) ≡ true → Layers (Steps s t (leavingOut (walkFor seat (sideFor (edgeAt h t j .kind)) 0) (stepOf (edgeAt h t j))) (h .edges)) (λ x. x ≡ edgeAt h t j .from) dist
+      → b ≡ not (eqb (getD dist (edgeAt h t j .to) 0) 0) → Says b (RedundantRow s (seat .office) j)
 
   judged-own : Accepted s → RowTested (edgeTable s) (headerOf s)
   unfolding edgeRow takes
   judged-own acc l m y e = says b e
     where
       edge : Edge
-      edge = edgeAt (edgeTable s) j
+      edge = edgeOf s j
 
       tests : (ownTest (edge .kind) ≡ true) × ((eqb (rightKind (sideFor (edge .kind))) 4 && eqb (edge .kind) 2) ≡ false)
       tests = own-test (edge .kind) (kind-of (edge .kind) (acc .edges .shaped j l .kind-low) (acc .edges .shaped j l .kind-high))
@@ -69,9 +70,9 @@ module _ (s : List ℕ) (seat : Seat) (j : ℕ) (dist : List ℕ) (b : Bool) whe
 -- ---- the same, as the functions have it
 
 -- a row that does not count is none of the office's
-pub unmarked : (s t : List ℕ) (h : Header) → WellFormed s t h → (seat : Seat) (j : ℕ) (e : Edge) → e ≡ edgeAt t j → countsAt seat e ≡ false → RedundantRow s (seat .office) j → ⊥
+pub unmarked : (s t : List ℕ) (h : Header) → WellFormed s t h → (seat : Seat) (j : ℕ) (e : Edge) → e ≡ edgeAt h t j → countsAt seat e ≡ false → RedundantRow s (seat .office) j → ⊥
 unfolding edgeRow
-unmarked s t h f seat j e q n r = true≢false (sym (r .bears) ∙ rw (q, f .table) at n)
+unmarked s t h f seat j e q n r = let own = q ∙ row-under s t h f j in true≢false (sym (r .bears) ∙ rw (own, f .table) at n)
 
 -- the walk of the side by which the kind is judged
 pub past-by : (s t : List ℕ) (h : Header) (seat : Seat) (kind : ℕ) (but : LeftOut) (dist : List ℕ) (side : Side) → sideFor kind ≡ side
@@ -80,7 +81,7 @@ past-by s t h seat kind but dist side e y =
     record { long = y .0; layers = subst (λ (S : Side). Layers (Steps s t (leavingOut (sideWalk seat S) but) (h .edges)) (λ x. x ≡ but .from) dist) (sym e) (y .1) }
 
 -- a row that counts is redundant exactly if the numbers reach its to end
-pub redundant-by : (s t : List ℕ) (h : Header) → WellFormed s t h → (seat : Seat) (j : ℕ) (e : Edge) (dist : List ℕ) (b : Bool) → e ≡ edgeAt t j → j < h .edges → countsAt seat e ≡ true
+pub redundant-by : (s t : List ℕ) (h : Header) → WellFormed s t h → (seat : Seat) (j : ℕ) (e : Edge) (dist : List ℕ) (b : Bool) → e ≡ edgeAt h t j → j < h .edges → countsAt seat e ≡ true
     → (but : LeftOut) → but ≡ stepOf e → PastRow s t h seat (e .kind) but dist → b ≡ not (eqb (getD dist (e .to) 0) 0) → Says b (RedundantRow s (seat .office) j)
 redundant-by s t h f seat j e dist b q l o but z p =
     subst (λ (x : Edge). countsAt seat x ≡ true → PastRow s t h seat (x .kind) (stepOf x) dist → b ≡ not (eqb (getD dist (x .to) 0) 0) → Says b (RedundantRow s (seat .office) j)) (sym q) (λ o p. judged s seat j dist b t h f l o (p .layers))

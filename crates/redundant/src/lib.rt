@@ -8,7 +8,7 @@ use walk::LeftOut;
 ghost use mathlib.Core.Path.{_≡_};
 ghost use Prim.Native.Nat.{_<_};
 ghost use lib.ListN.{length};
-ghost use Rattle.sheet.specs.Limits.{maxEdges};
+ghost use Rattle.sheet.specs.Limits.{mostEdges};
 ghost use Rattle.sheet.specs.Accepted.{WellFormed};
 ghost use Rattle.sheet.specs.Seats.{Seated};
 ghost use Rattle.meaning.specs.Answers.{Says};
@@ -94,7 +94,7 @@ fn prune(
     banindex: &[u32],
     list: &mut [u32],
 ) -> u32
-    requires { ⌜ AtSeat (now sheet) (now edges) h seat × BothArranged (now sheet) (now edges) h seat (now grantindex) (now banindex) × (length (now list) ≡ maxEdges) ⌝ }
+    requires { ⌜ AtSeat (now sheet) (now edges) h seat × BothArranged (now sheet) (now edges) h seat (now grantindex) (now banindex) × (length (now list) ≡ mostEdges) ⌝ }
     ensures { λ r. ⌜ Finds (RedundantEdgesAre (now (sheet .entry)) (seat .office)) (now (list .exit)) r ⌝ }
 {
     let rows = h.edges;
@@ -116,7 +116,7 @@ pub fn redundant_edges_at(
     seat: Seat,
     list: &mut [u32],
 ) -> u32
-    requires { ⌜ AtSeat (now sheet) (now edges) h seat × (length (now list) ≡ maxEdges) ⌝ }
+    requires { ⌜ AtSeat (now sheet) (now edges) h seat × (length (now list) ≡ mostEdges) ⌝ }
     ensures { λ r. ⌜ Finds (RedundantEdgesAre (now (sheet .entry)) (seat .office)) (now (list .exit)) r ⌝ }
 {
     let grantindex = walk::arranged(sheet, edges, h, walk::walk_of(seat, GRANT, 0));

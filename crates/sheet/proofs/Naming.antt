@@ -14,7 +14,7 @@ use Rattle.tables.proofs.Keys.{Ahead, first, rest, ahead, behind, below-first, 
 use Rattle.tables.proofs.Marks.{within-marked}
 use Rattle.tables.proofs.Tables.{rows-rise, MarkedRow, held-row, row-held}
 use Rattle.sheet.specs.declared.Edge.{Edge}
-use Rattle.sheet.specs.Rows.{headerOf, nodeAt, edgeAt, edgeTable, edgeKey, nodeKeyAt, endsFit}
+use Rattle.sheet.specs.Rows.{headerOf, nodeAt, edgeOf, edgeTable, edgeKey, nodeKeyAt, endsFit}
 use Rattle.sheet.specs.Accepted.{RowsRise, Accepted}
 use Rattle.sheet.specs.Named.{nodeRow, edgeRow, tablesOf, heldAt, seenAt}
 
@@ -50,7 +50,7 @@ module _ (s : List ℕ) (w : Accepted s) where
   edges-up j h =
       let a = w .edges .shaped j (omega arith) in
       let b = w .edges .shaped (j + 1) h in
-      lower-named s (headerOf s .nodes) (w .nodes .rise) (edgeAt (edgeTable s) j) (edgeAt (edgeTable s) (j + 1)) (a .from) (b .from) (a .to) (b .to) (w .edges .rise j h)
+      lower-named s (headerOf s .nodes) (w .nodes .rise) (edgeOf s j) (edgeOf s (j + 1)) (a .from) (b .from) (a .to) (b .to) (w .edges .rise j h)
 
   -- both tables rise, with marks of offices within the count
   pub nodes-rise : Rise (2 ^ (tablesOf s .offices)) [] (tablesOf s .nodes)
@@ -94,8 +94,8 @@ module _ (s : List ℕ) (w : Accepted s) where
   seen-edge = held-edge
 
   -- the end of a marked edge row stands at the office too
-  end-seen : (office j i : ℕ) → i < headerOf s .nodes → within (edgeAt (edgeTable s) j .offices) (nodeAt s i .offices) ≡ true
-      → marked (edgeAt (edgeTable s) j .offices) office ≡ true → seenAt s office .node (nodeKeyAt s i) ≡ true
+  end-seen : (office j i : ℕ) → i < headerOf s .nodes → within (edgeOf s j .offices) (nodeAt s i .offices) ≡ true
+      → marked (edgeOf s j .offices) office ≡ true → seenAt s office .node (nodeKeyAt s i) ≡ true
   unfolding nodeRow
   end-seen office j i h inside bears = seen-node office (nodeKeyAt s i) (record { row = i; inside = h; names = refl; bears = within-marked _ _ office inside bears })
 
@@ -107,8 +107,8 @@ module _ (s : List ℕ) (w : Accepted s) where
       let r = edge-seen office (relation kind (identity t n v) (identity t′ n′ v′)) e in
       let p = w .edges .shaped (r .row) (r .inside) in
       let f = w .edges .fit (r .row) (r .inside) in
-      let from : nodeKeyAt s (edgeAt (edgeTable s) (r .row) .from) ≡ identity t n v = cc (r .names) in
-      let to : nodeKeyAt s (edgeAt (edgeTable s) (r .row) .to) ≡ identity t′ n′ v′ = cc (r .names) in (
+      let from : nodeKeyAt s (edgeOf s (r .row) .from) ≡ identity t n v = cc (r .names) in
+      let to : nodeKeyAt s (edgeOf s (r .row) .to) ≡ identity t′ n′ v′ = cc (r .names) in (
         ap (λ (k : Key). seenAt s office .node k) (sym from) ∙ end-seen office (r .row) _ (p .from) (f .in-from) (r .bears),
         ap (λ (k : Key). seenAt s office .node k) (sym to) ∙ end-seen office (r .row) _ (p .to) (f .in-to) (r .bears),
         cc (r .names, f .ends),

@@ -2,13 +2,14 @@
 -- Assumes nothing.
 use Prim.Native.Nat.{ℕ}
 use mathlib.Core.List.{List, [], _∷_}
-use Rattle.sheet.specs.declared.Edge.{Edge}
+use Rattle.sheet.specs.declared.Cells.{Cells}
+use Rattle.sheet.specs.declared.Half.{Half}
 use Rattle.sheet.specs.Limits.{headerWords, edgesFrom}
 
 -- form, office count, node count, edge count, node offset, edge offset
-unfoldable pub headerSix : ℕ → ℕ → ℕ → List ℕ
-headerSix offices nodes edges = 1 ∷ offices ∷ nodes ∷ edges ∷ headerWords ∷ edgesFrom nodes ∷ []
+unfoldable pub headerSix : ℕ → ℕ → ℕ → ℕ → List ℕ
+headerSix form offices nodes edges = form ∷ offices ∷ nodes ∷ edges ∷ headerWords ∷ edgesFrom nodes ∷ []
 
--- kind, from row, to row, offices; a node row's type, number and variant stand where its first three do
-unfoldable pub edgeFour : Edge → List ℕ
-edgeFour e = e .kind ∷ e .from ∷ e .to ∷ e .offices ∷ []
+-- a row's words: its first three, then its offices
+unfoldable pub stored : Half → ℕ → Cells → List ℕ
+stored half form c = c .first ∷ c .second ∷ c .third ∷ c .offices ∷ []

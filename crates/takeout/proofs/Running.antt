@@ -14,14 +14,14 @@ use Rattle.sheet.specs.Rows.{edgeTable}
 use Rattle.sheet.specs.Accepted.{WellFormed}
 use Rattle.sheet.proofs.Naming.{marks-held}
 use Rattle.meaning.specs.Join.{IsTaken}
-use Rattle.combine.specs.declared.Part.the-variants.{Nodes, Edges}
+use Rattle.sheet.specs.declared.Half.the-variants.{Nodes, Edges}
 use Rattle.combine.specs.declared.Rule.the-variants.{Run}
 use Rattle.combine.specs.declared.Measure.{Measure}
 use Rattle.combine.specs.Combined.{firstStays}
-use Rattle.combine.specs.SheetTables.{rowAt}
+use Rattle.sheet.specs.Named.{rowAt}
 use Rattle.combine.specs.Sheets.{IsCombined, Pair, Measured}
 use Rattle.combine.proofs.Counting.{kept-few}
-use Rattle.combine.proofs.Reading.{read-accepted}
+use Rattle.sheet.proofs.Forming.{words-of}
 use Rattle.combine.proofs.Ruling.{zero-run, run-rules}
 
 module _ (s : List ℕ) (h : Header) (W : WellFormed s (edgeTable s) h) (k n low span : ℕ) (low-is : low ≡ 2 ^ k) (span-is : span ≡ 2 ^ n) where
@@ -53,7 +53,7 @@ module _ (s : List ℕ) (h : Header) (W : WellFormed s (edgeTable s) h) (k n low
       record {
         accepted = C .accepted;
         offices = C .offices-are;
-        holds = λ i l. marks-held t s (C .accepted) (read-accepted s h W) (suc i) (suc (k + i)) (λ key. office i l _ _ (C .nodes key)) (λ key. office i l _ _ (C .edges key));
+        holds = λ i l. marks-held t s (C .accepted) (words-of s _ h W) (suc i) (suc (k + i)) (λ key. office i l _ _ (C .nodes key)) (λ key. office i l _ _ (C .edges key));
       }
     where
       office : (i : ℕ) → i < n → (m x : ℕ) → m ≡ x / low % span → marked m (suc i) ≡ marked x (suc (k + i))

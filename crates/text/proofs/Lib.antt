@@ -1,3 +1,4 @@
 pub mod Spelling
 pub mod Putting
 pub mod Single
+pub mod Mistakes

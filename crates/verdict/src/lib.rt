@@ -4,13 +4,12 @@ use sheet::BAN;
 use sheet::CATEGORY;
 use sheet::CONTAINED;
 use sheet::DEED;
-use sheet::EDGE_WORDS;
 use sheet::Edge;
 use sheet::FOLIO;
 use sheet::GRANT;
 use sheet::HEADER_WORDS;
+use sheet::Half;
 use sheet::Header;
-use sheet::MAX_EDGES;
 use sheet::MAX_NODES;
 use sheet::MAX_OFFICES;
 use sheet::MEMBER;
@@ -25,9 +24,9 @@ ghost use Rattle.tables.specs.Marks.{marksFit, within};
 ghost use Rattle.sheet.specs.Limits.{maxOffices};
 ghost use mathlib.Core.Bool.{_&&_};
 ghost use Rattle.sheet.specs.Refusals.{_below_, _when_otherwise_, _orElse_, firstRow};
-ghost use Rattle.sheet.specs.Rows.{endsFit};
+ghost use Rattle.sheet.specs.Rows.{endsFit, countIn};
 ghost use Rattle.sheet.specs.Verdict.{headerFault, sheetFault, nodeFault, nodeOrder, nodeFaultAt, edgeShape, edgeFit, edgeOrder, edgeRest, edgeFaultAt, rowsVerdict, verdict};
-ghost use Rattle.verdict.specs.Each.{countOf, faultAt};
+ghost use Rattle.verdict.specs.Each.{faultAt};
 ghost use Rattle.sheet.specs.Accepted.{HeaderFits, EdgeRoom, EdgeShaped};
 
 // Whether the marks are a sum of marks of offices within the count, not 0.
@@ -78,11 +77,12 @@ fn header_fault(h: Header, words: usize) -> u32
     if (h.offices < 1) | (MAX_OFFICES < h.offices) {
         return 3;
     }
-    if (MAX_NODES < h.nodes) | (MAX_EDGES < h.edges) {
+    let most = sheet::max_edges(h.form);
+    if (MAX_NODES < h.nodes) | (most < h.edges) {
         return 4;
     }
-    if !((start == HEADER_WORDS)
-        & ((from == edges_from) & (words == edges_from + EDGE_WORDS * e))) {
+    let size = sheet::sheet_words(h.form, n, e);
+    if !((start == HEADER_WORDS) & ((from == edges_from) & (words == size))) {
         return 5;
     }
     0
@@ -221,38 +221,31 @@ fn edge_fault_at(sheet: &[u32], edges: &[u32], h: Header, j: usize) -> u32
     edge_rest(sheet, edges, h, j, e)
 }
 
-// How many rows a table has, 1 of nodes or 2 of edges.
-fn count_of(h: Header, table: u32) -> u32
-    ensures { λ r. ⌜ r ≡ countOf h table ⌝ }
-{
-    if table == 1 { h.nodes } else { h.edges }
-}
-
 // 6 to 10 of a node row, 11 to 17 of an edge row.
-fn fault_at(sheet: &[u32], edges: &[u32], h: Header, table: u32, i: usize) -> u32
-    requires { ⌜ HeaderFits h (length (now sheet)) × EdgeRoom h (now edges) × (i < countOf h table) ⌝ }
-    ensures { λ k. ⌜ k ≡ faultAt (now (sheet .entry)) (now (edges .entry)) h table i ⌝ }
+fn fault_at(sheet: &[u32], edges: &[u32], h: Header, half: Half, i: usize) -> u32
+    requires { ⌜ HeaderFits h (length (now sheet)) × EdgeRoom h (now edges) × (i < countIn half h) ⌝ }
+    ensures { λ k. ⌜ k ≡ faultAt (now (sheet .entry)) (now (edges .entry)) h half i ⌝ }
 {
-    if table == 1 {
-        return node_fault_at(sheet, h, i);
+    match half {
+        Half::Nodes => node_fault_at(sheet, h, i),
+        Half::Edges => edge_fault_at(sheet, edges, h, i),
     }
-    edge_fault_at(sheet, edges, h, i)
 }
 
-// The first row of a table that has a number, of the sheet that the caller counts as `place`.
-fn check_table(place: u32, sheet: &[u32], edges: &[u32], h: Header, table: u32) -> Refusal
+// The first row of a half that has a number, of the sheet that the caller counts as `place`.
+fn check_half(place: u32, sheet: &[u32], edges: &[u32], h: Header, half: Half) -> Refusal
     requires { ⌜ HeaderFits h (length (now sheet)) × EdgeRoom h (now edges) ⌝ }
-    ensures { λ r. ⌜ r ≡ firstRow place (faultAt (now (sheet .entry)) (now (edges .entry)) h table) 0 (countOf h table) ⌝ }
+    ensures { λ r. ⌜ r ≡ firstRow place (faultAt (now (sheet .entry)) (now (edges .entry)) h half) 0 (countIn half h) ⌝ }
 {
-    let n = count_of(h, table);
-    let mut i: u32 = 0;
+    let n = sheet::count_in(half, h);
+    let mut i: usize = 0;
     while i < n {
-        let k = fault_at(sheet, edges, h, table, i as usize);
+        let k = fault_at(sheet, edges, h, half, i);
         if k != 0 {
             return Refusal {
                 number: k,
                 sheet: place,
-                row: i,
+                row: i as u32,
             };
         }
         i += 1;
@@ -271,11 +264,11 @@ fn check_rows(place: u32, sheet: &[u32], h: Header) -> Refusal
 {
     let from = h.edgeoffset as usize;
     let edges = &sheet[from..];
-    let v = check_table(place, sheet, edges, h, 1);
+    let v = check_half(place, sheet, edges, h, Half::Nodes);
     if v.number != 0 {
         return v;
     }
-    check_table(place, sheet, edges, h, 2)
+    check_half(place, sheet, edges, h, Half::Edges)
 }
 
 // The verdict on any words, as the sheet that the caller counts as `place`: the first number of 1 to 17 that applies, or none.

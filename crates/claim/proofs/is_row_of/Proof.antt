@@ -21,7 +21,8 @@ same-node-requires : tie.Need-same-node-requires
 same-node-requires c κs = search needs
 
 returns : tie.Need-returns
-returns c = row-elsewhere _ _ _ _ _ _ _ _ (c .before .before .before .before .edge-at .ensures) _ (c .before .before .node-at .ensures) (sym (c .before .same-node .ensures) ∙ not-true _ (c .if1 .taken))
+returns c = let S = c .before .before .before .before .before .before .before .pre in
+    row-elsewhere _ _ _ (S .0) _ _ _ _ _ _ (c .before .before .before .before .edge-at .ensures) _ (c .before .before .node-at .ensures) (sym (c .before .same-node .ensures) ∙ not-true _ (c .if1 .taken))
 
 cast-node-at-2 : tie.Need-cast-node-at-2
 cast-node-at-2 c = search needs
@@ -37,7 +38,8 @@ same-node-requires-2 : tie.Need-same-node-requires-2
 same-node-requires-2 c κs = search needs
 
 returns-2 : tie.Need-returns-2
-returns-2 c = row-is _ _ _ _ _ _ _ _ (c .before .before .before .before .before .before .before .before .before .edge-at .ensures) _ (c .before .before .before .before .before .before .before .node-at .ensures) (sym (c .before .before .before .before .before .before .same-node .ensures) ∙ not-false _ (c .before .before .before .before .before .if1 .left))
+returns-2 c = let S = c .before .before .before .before .before .before .before .before .before .before .before .before .pre in
+    row-is _ _ _ (S .0) _ _ _ _ _ _ (c .before .before .before .before .before .before .before .before .before .edge-at .ensures) _ (c .before .before .before .before .before .before .before .node-at .ensures) (sym (c .before .before .before .before .before .before .same-node .ensures) ∙ not-false _ (c .before .before .before .before .before .if1 .left))
     _ (c .before .before .before .node-at2 .ensures) _ _ (c .before .before .counts .ensures) (c .same-node2 .ensures)
 
 pub is-row-of-spec : {M : Type 1} → statement M

@@ -1,12 +1,13 @@
--- `combine::below_at` meets its contract, part by part.
+-- `combine::below_at` meets its contract, half by half.
 -- Assumes nothing.
 use mathlib.Core.Path.{_≡_, sym, ap₂, subst, _∙_}
 use Rattle.tables.specs.Key.{belowKey}
 use Rattle.sheet.specs.declared.Node.{Node}
 use Rattle.sheet.specs.Rows.{nodeKey}
-use Rattle.combine.specs.declared.Part.{Part}
-use Rattle.combine.specs.SheetTables.{rowAt}
-use Rattle.combine.proofs.Reading.{part-room, part-edges, nodes-below}
+use Rattle.sheet.specs.declared.Half.{Half}
+use Rattle.sheet.specs.Named.{rowAt}
+use Rattle.sheet.proofs.Reading.{node-room, row-in}
+use Rattle.combine.proofs.Reading.{nodes-below}
 use borrow.Author.Needs.{needs}
 use Rattle.combine.proofs.below_at.Statement.{statement}
 use Rattle.combine.proofs.below_at.Tie as tie
@@ -15,11 +16,11 @@ enum-told : tie.Need-enum-told
 enum-told c = search needs
 
 node-at-requires : tie.Need-node-at-requires
-node-at-requires c κs = let s = c .before .before .before .before in part-room _ _ (s .pre .0) _ _ (c .enum-told .given .1) (s .pre .1)
+node-at-requires c κs = let s = c .before .before .before .before in node-room _ _ _ (s .pre .0) _ (row-in _ _ (s .pre .0) _ _ _ (c .enum-told .given .1) (s .pre .1))
 
 node-at-requires-2 : tie.Need-node-at-requires-2
 node-at-requires-2 c κs = let s = c .before .before .before .before .before in
-    part-room _ _ (s .pre .2) _ _ (c .before .enum-told .given .1) (s .pre .3)
+    node-room _ _ _ (s .pre .2) _ (row-in _ _ (s .pre .2) _ _ _ (c .before .enum-told .given .1) (s .pre .3))
 
 below-node-requires : tie.Need-below-node-requires
 below-node-requires c κs = search needs
@@ -30,14 +31,14 @@ enum-told-2 c = search needs
 below-named-requires : tie.Need-below-named-requires
 below-named-requires c κs = let s = c .before .before .before .before in
     let p = c .enum-told2 .given .1 in
-    (s .pre .0, part-edges _ _ (s .pre .0) _ _ p (s .pre .1), s .pre .2, part-edges _ _ (s .pre .2) _ _ p (s .pre .3))
+    (s .pre .0, row-in _ _ (s .pre .0) _ _ _ p (s .pre .1), s .pre .2, row-in _ _ (s .pre .2) _ _ _ p (s .pre .3))
 
 returns : tie.Need-returns
 returns c = nodes-below _ _ _ _ _ _ (c .before .before .before .enum-told .given .1) (c .below-node .ensures ∙ ap₂ (λ (x y : Node). belowKey (nodeKey x) (nodeKey y)) (c .before .before .node-at .ensures) (c .before .node-at2 .ensures))
 
 returns-2 : tie.Need-returns-2
 returns-2 c = let s = c .before .before .before .before .before in
-    subst (λ (p : Part). c .below-named .result ≡ belowKey (rowAt p (s .args .first .now) (s .args .i) .key) (rowAt p (s .args .second .now) (s .args .j) .key)) (sym (c .before .enum-told2 .given .1)) (c .below-named .ensures)
+    subst (λ (p : Half). c .below-named .result ≡ belowKey (rowAt p (s .args .first .now) (s .args .i) .key) (rowAt p (s .args .second .now) (s .args .j) .key)) (sym (c .before .enum-told2 .given .1)) (c .below-named .ensures)
 
 pub below-at-spec : {M : Type 1} → statement M
 below-at-spec =

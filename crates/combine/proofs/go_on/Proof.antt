@@ -22,7 +22,7 @@ made-requires : tie.Need-made-requires
 made-requires c κs = let s = c .before .before .before .before .before in
     let P = s .pre in
     let M = moves-inside _ _ _ _ _ _ _ _ (c .before .before .pass-key .ensures) in
-    P .0 .safe _ _ (subst (λ (x : ℕ). x < 2 ^ s .args .h .offices) (sym (c .before .marks-given .ensures)) (given-low (s .args .part) _ _ (P .0 .first) _ _ (M .0))) (subst (λ (x : ℕ). x < 2 ^ s .args .g .offices) (sym (c .marks-given2 .ensures)) (given-low (s .args .part) _ _ (P .0 .second) _ _ (M .1)))
+    P .0 .safe _ _ (subst (λ (x : ℕ). x < 2 ^ s .args .h .offices) (sym (c .before .marks-given .ensures)) (given-low (s .args .half) _ _ (P .0 .first) _ _ (M .0))) (subst (λ (x : ℕ). x < 2 ^ s .args .g .offices) (sym (c .marks-given2 .ensures)) (given-low (s .args .half) _ _ (P .0 .second) _ _ (M .1)))
 
 returns : tie.Need-returns
 returns c = record { moves = c .before .before .before .pass-key .ensures; made = c .made .ensures ∙ ap₂ (makes (c .before .before .before .before .before .before .args .rule)) (c .before .before .marks-given .ensures) (c .before .marks-given2 .ensures) }

@@ -1,8 +1,10 @@
 -- `combine::lay` meets its contract: header, node rows and edge rows, each written behind the one before.
 -- Assumes nothing.
 use Prim.Native.Nat.{_+_, _*_}
-use mathlib.Core.Path.{refl}
+use mathlib.Core.Path.{refl, ap}
 use native.Mathlib.Omega.{arith}
+use Rattle.sheet.specs.Limits.{edgePlace}
+use Rattle.sheet.proofs.Widths.{few}
 use Rattle.combine.proofs.Whole.{edge-inputs, second-room, laid-by}
 use borrow.Author.Needs.{needs}
 use Rattle.combine.proofs.lay.Statement.{statement}
@@ -12,7 +14,7 @@ cast-put-header : tie.Need-cast-put-header
 cast-put-header c = search needs
 
 cast-put-header-2 : tie.Need-cast-put-header-2
-cast-put-header-2 c = search needs
+cast-put-header-2 c = omega (arith, few _ _ (c .before .before .before .before .before .before .pre .3) .0)
 
 put-header-requires : tie.Need-put-header-requires
 put-header-requires c κs = search needs
@@ -66,7 +68,7 @@ write-requires-2 : tie.Need-write-requires-2
 write-requires-2 c κs = let S = c .before .before .before .before .before .before .before .before .before .before .before .before .before .before .before .before .before in
     let P = S .pre in
     let l = c .before .before .before .before .before .before .before .before .before .before .put-header .kept .0 in
-    (edge-inputs _ _ _ _ _ _ _ (P .0), omega (arith, P .1 .edge-rows, second-room (c .before .before .before .before .before .before .before .before .before .before .put-header .last .0) (c .before .before .before .before .before .write .last .1 .1 .1 .1 .1 .1 .1 .1 .0) 6 (6 + 4 * S .args .m .nodes) (4 * S .args .m .edges) (omega (arith, P .4)) (c .before .before .before .before .before .write .kept .1 .1 .1 .1 .1 .1 .1 .1 .0) (omega (arith, P .4))))
+    (edge-inputs _ _ _ _ _ _ _ (P .0), omega (arith, ap (edgePlace (S .args .h .form)) (P .1 .edge-rows), second-room (c .before .before .before .before .before .before .before .before .before .before .put-header .last .0) (c .before .before .before .before .before .write .last .1 .1 .1 .1 .1 .1 .1 .1 .0) 6 (6 + 4 * S .args .m .nodes) (edgePlace (S .args .h .form) (S .args .m .edges)) (omega (arith, P .4)) (c .before .before .before .before .before .write .kept .1 .1 .1 .1 .1 .1 .1 .1 .0) (omega (arith, P .4))))
 
 same-length : tie.Need-same-length
 same-length c = search needs

@@ -2,7 +2,8 @@
 -- Assumes nothing.
 use native.Mathlib.Omega.{arith}
 use Rattle.sheet.proofs.Refusing.{via}
-use Rattle.combine.proofs.Reading.{few, moves-first, moves-second, moves-both}
+use Rattle.sheet.proofs.Widths.{rows-few}
+use Rattle.combine.proofs.Reading.{moves-first, moves-second, moves-both}
 use borrow.Author.Needs.{needs}
 use Rattle.combine.proofs.pass_key.Statement.{statement}
 use Rattle.combine.proofs.pass_key.Tie as tie
@@ -13,7 +14,7 @@ count-in-requires c κs = search needs
 add-at : tie.Need-add-at
 add-at c = let S = c .before .before .before .before in
     let P = S .pre in
-    omega (arith, P .2 .some, P .2 .second, few _ _ (P .1) (S .args .part), few _ _ (P .0) (S .args .part), P .2 .first)
+    omega (arith, P .2 .some, P .2 .second, rows-few (S .args .half) _ _ (P .1 .nodes .header), rows-few (S .args .half) _ _ (P .0 .nodes .header), P .2 .first)
 
 at-requires : tie.Need-at-requires
 at-requires c κs = search needs

@@ -1,6 +1,7 @@
 -- `join::join_checked` meets its contract: the counts measured are the union's, and what is laid is the join.
 -- Assumes nothing.
 use mathlib.Core.Path.{sym, ap, _∙_}
+use Rattle.sheet.specs.declared.Header.{Header}
 use Rattle.join.specs.Joins.{refusedJoin}
 use Rattle.join.proofs.Refusing.{joins-refused, too-much-is, within-limits}
 use Rattle.join.proofs.Joining.{pair, few, limits, nodes-union, edges-union, joined-laid}
@@ -23,16 +24,16 @@ refused-join-requires c κs = search needs
 returns : tie.Need-returns
 returns c = let P = c .before .before .before .before .before .before .before .before .pre in
     let M = c .before .before .before .before .measure-of .ensures in
-    joins-refused _ _ _ _ _ _ _ (too-much-is _ _ _ _ _ _ (c .before .before .before .too-much .ensures) (nodes-union _ _ (P .0) _ _ (P .1) _ M) (edges-union _ _ (P .0) _ _ (P .1) _ M) (c .before .before .if1 .taken)) (c .before .before .if1 .taken) (c .refused-join .ensures ∙ ap refusedJoin (c .before .about .ensures))
+    joins-refused _ _ _ _ _ _ _ (too-much-is _ _ _ _ _ _ _ (c .before .before .before .too-much .ensures) (ap (λ (x : Header). x .form) (P .0 .head)) (nodes-union _ _ (P .0) _ _ (P .1) _ M) (edges-union _ _ (P .0) _ _ (P .1) _ M) (c .before .before .if1 .taken)) (c .before .before .if1 .taken) (c .refused-join .ensures ∙ ap refusedJoin (c .before .about .ensures))
 
 lay-requires : tie.Need-lay-requires
 lay-requires c κs = let P = c .before .before .before .before .before .before .before .pre in
-    let l = within-limits _ _ _ (sym (c .before .if1 .left) ∙ c .before .before .too-much .ensures) in
+    let l = within-limits _ _ _ _ (sym (c .before .if1 .left) ∙ c .before .before .too-much .ensures) in
     (pair _ _ (P .0) _ _ (P .1), c .before .before .before .measure-of .ensures, l .0, l .1, l .2)
 
 made-join-requires : tie.Need-made-join-requires
 made-join-requires c κs = let P = c .before .before .before .before .before .before .before .before .before .before .pre in
-    let l = within-limits _ _ _ (sym (c .before .before .before .before .if1 .left) ∙ c .before .before .before .before .before .too-much .ensures) in
+    let l = within-limits _ _ _ _ (sym (c .before .before .before .before .if1 .left) ∙ c .before .before .before .before .before .too-much .ensures) in
     let f = few _ _ (P .0) _ _ (P .1) _ (c .before .before .before .before .before .before .measure-of .ensures) in
     let x = limits _ _ (P .0) in
     let y = limits _ _ (P .1) in

@@ -28,11 +28,11 @@ returns c =
     let A = c .before .before .before .before .before .before .before .args in
     gives-none (lent (A .first)) (lent (A .second)) _ _ _ (c .before .before .before .look-fault .ensures) (c .before .before .before .before .named .ensures) (c .before .if1 .taken)
 
-place-in-requires : tie.Need-place-in-requires
-place-in-requires c κs = both-accepted _ _ _ _ (c .before .before .look-fault .ensures) (c .if1 .left) .0
+word-place-requires : tie.Need-word-place-requires
+word-place-requires c κs = both-accepted _ _ _ _ (c .before .before .look-fault .ensures) (c .if1 .left) .0
 
 add-e : tie.Need-add-e
-add-e c = omega (arith, first-row _ _ _ _ (c .before .before .before .before .look-fault .ensures) _ (c .before .before .if1 .left) (c .before .place-in .ensures) (c .if2 .taken) .room)
+add-e c = omega (arith, first-row _ _ _ _ (c .before .before .before .before .look-fault .ensures) _ (c .before .before .if1 .left) (c .before .word-place .ensures) (c .if2 .taken) .room)
 
 mul-result : tie.Need-mul-result
 mul-result c = search needs
@@ -44,7 +44,7 @@ part-result-start-2 : tie.Need-part-result-start-2
 part-result-start-2 c = search needs
 
 part-result-end-2 : tie.Need-part-result-end-2
-part-result-end-2 c = first-row _ _ _ _ (c .before .before .before .before .look-fault .ensures) _ (c .before .before .if1 .left) (c .before .place-in .ensures) (c .if2 .taken) .room
+part-result-end-2 c = first-row _ _ _ _ (c .before .before .before .before .look-fault .ensures) _ (c .before .before .if1 .left) (c .before .word-place .ensures) (c .if2 .taken) .room
 
 returns-2 : tie.Need-returns-2
 returns-2 c =
@@ -52,14 +52,14 @@ returns-2 c =
     let R = c .before .before .before .before .before .look-fault .ensures in
     let Z = c .before .before .before .if1 .left in
     gives-first (lent (A .first)) (lent (A .second)) _ _ _ R (c .before .before .before .before .before .before .named .ensures) _ Z
-    (first-row _ _ _ _ R _ Z (c .before .before .place-in .ensures) (c .before .if2 .taken))
+    (first-row _ _ _ _ R _ Z (c .before .before .word-place .ensures) (c .before .if2 .taken))
 
-place-in-requires-2 : tie.Need-place-in-requires-2
-place-in-requires-2 c κs = both-accepted _ _ _ _ (c .before .before .before .before .look-fault .ensures) (c .before .before .if1 .left) .1
+word-place-requires-2 : tie.Need-word-place-requires-2
+word-place-requires-2 c κs = both-accepted _ _ _ _ (c .before .before .before .before .look-fault .ensures) (c .before .before .if1 .left) .1
 
 -- the row in the second sheet
-found : (k : tie.After-place-in2) → StandingRow (k .before .before .before .before .before .before .before .before .before .args .second .now) (nodeKey (k .before .before .before .before .before .before .named .result)) (k .place-in2 .result)
-found k = second-row _ _ _ _ (k .before .before .before .before .before .look-fault .ensures) _ _ (k .before .before .before .if1 .left) (k .before .before .place-in .ensures) (k .before .if2 .left) (k .place-in2 .ensures)
+found : (k : tie.After-word-place2) → StandingRow (k .before .before .before .before .before .before .before .before .before .args .second .now) (nodeKey (k .before .before .before .before .before .before .named .result)) (k .word-place2 .result)
+found k = second-row _ _ _ _ (k .before .before .before .before .before .look-fault .ensures) _ _ (k .before .before .before .if1 .left) (k .before .before .word-place .ensures) (k .before .if2 .left) (k .word-place2 .ensures)
 
 add-f : tie.Need-add-f
 add-f c = omega (arith, found c .low)
@@ -82,7 +82,7 @@ returns-3 c =
     let R = c .before .before .before .before .before .before .look-fault .ensures in
     let Z = c .before .before .before .before .if1 .left in
     gives-second (lent (A .first)) (lent (A .second)) _ _ _ R (c .before .before .before .before .before .before .before .named .ensures) _ Z
-    (has-none _ _ _ (both-accepted _ _ _ _ R Z .0) (c .before .before .before .place-in .ensures) (c .before .before .if2 .left)) (found (c .before))
+    (has-none _ _ _ (both-accepted _ _ _ _ R Z .0) (c .before .before .before .word-place .ensures) (c .before .before .if2 .left)) (found (c .before))
 
 pub look-up-spec : {M : Type 1} → statement M
 look-up-spec =
@@ -94,14 +94,14 @@ look-up-spec =
     part-result-start
     part-result-end
     returns
-    place-in-requires
+    word-place-requires
     add-e
     mul-result
     sub-result-2
     part-result-start-2
     part-result-end-2
     returns-2
-    place-in-requires-2
+    word-place-requires-2
     add-f
     mul-result-2
     sub-result-3

@@ -19,12 +19,12 @@ refused-requires c κs = search needs
 returns : tie.Need-returns
 returns c = place-part _ _ _ _ _ (c .before .before .before .before .named .ensures) (places-none _ _ _ _ (c .before .before .before .look-fault .ensures) _ (c .before .if1 .taken) (c .refused .ensures))
 
-place-in-requires : tie.Need-place-in-requires
-place-in-requires c κs = both-accepted _ _ _ _ (c .before .before .look-fault .ensures) (c .if1 .left) .0
+word-place-requires : tie.Need-word-place-requires
+word-place-requires c κs = both-accepted _ _ _ _ (c .before .before .look-fault .ensures) (c .if1 .left) .0
 
 -- the row in the first sheet
-here : (k : tie.Then2) → StandingRow (k .before .before .before .before .before .before .before .before .args .first .now) (nodeKey (k .before .before .before .before .before .named .result)) (k .before .place-in .result)
-here k = first-row _ _ _ _ (k .before .before .before .before .look-fault .ensures) _ (k .before .before .if1 .left) (k .before .place-in .ensures) (k .if2 .taken)
+here : (k : tie.Then2) → StandingRow (k .before .before .before .before .before .before .before .before .args .first .now) (nodeKey (k .before .before .before .before .before .named .result)) (k .before .word-place .result)
+here k = first-row _ _ _ _ (k .before .before .before .before .look-fault .ensures) _ (k .before .before .if1 .left) (k .before .word-place .ensures) (k .if2 .taken)
 
 row-from-requires : tie.Need-row-from-requires
 row-from-requires c κs = let x = here c in (omega (arith, x .place), x .low)
@@ -38,12 +38,12 @@ returns-2 c =
     place-part _ _ _ _ _ (c .before .before .before .before .before .before .before .named .ensures)
     (places-first _ _ _ _ R _ _ _ (c .before .before .before .before .if1 .left) (here (c .before .before)) (c .before .row-from .ensures) (c .told .ensures))
 
-place-in-requires-2 : tie.Need-place-in-requires-2
-place-in-requires-2 c κs = both-accepted _ _ _ _ (c .before .before .before .before .look-fault .ensures) (c .before .before .if1 .left) .1
+word-place-requires-2 : tie.Need-word-place-requires-2
+word-place-requires-2 c κs = both-accepted _ _ _ _ (c .before .before .before .before .look-fault .ensures) (c .before .before .if1 .left) .1
 
 -- the row in the second sheet
-there : (k : tie.After-place-in2) → StandingRow (k .before .before .before .before .before .before .before .before .before .args .second .now) (nodeKey (k .before .before .before .before .before .before .named .result)) (k .place-in2 .result)
-there k = second-row _ _ _ _ (k .before .before .before .before .before .look-fault .ensures) _ _ (k .before .before .before .if1 .left) (k .before .before .place-in .ensures) (k .before .if2 .left) (k .place-in2 .ensures)
+there : (k : tie.After-word-place2) → StandingRow (k .before .before .before .before .before .before .before .before .before .args .second .now) (nodeKey (k .before .before .before .before .before .before .named .result)) (k .word-place2 .result)
+there k = second-row _ _ _ _ (k .before .before .before .before .before .look-fault .ensures) _ _ (k .before .before .before .if1 .left) (k .before .before .word-place .ensures) (k .before .if2 .left) (k .word-place2 .ensures)
 
 row-from-requires-2 : tie.Need-row-from-requires-2
 row-from-requires-2 c κs = let x = there c in (omega (arith, x .place), x .low)
@@ -55,7 +55,7 @@ returns-3 : tie.Need-returns-3
 returns-3 c =
     let R = c .before .before .before .before .before .before .before .look-fault .ensures in
     let Z = c .before .before .before .before .before .if1 .left in
-    let H = has-none _ _ _ (both-accepted _ _ _ _ R Z .0) (c .before .before .before .before .place-in .ensures) (c .before .before .before .if2 .left) in
+    let H = has-none _ _ _ (both-accepted _ _ _ _ R Z .0) (c .before .before .before .before .word-place .ensures) (c .before .before .before .if2 .left) in
     place-part _ _ _ _ _ (c .before .before .before .before .before .before .before .before .named .ensures)
     (places-second _ _ _ _ R _ _ _ Z H (there (c .before .before)) (c .before .row-from2 .ensures) (c .told2 .ensures))
 
@@ -67,11 +67,11 @@ look-up-place-spec =
     look-fault-requires
     refused-requires
     returns
-    place-in-requires
+    word-place-requires
     row-from-requires
     told-requires
     returns-2
-    place-in-requires-2
+    word-place-requires-2
     row-from-requires-2
     told-requires-2
     returns-3)

@@ -1,10 +1,12 @@
 -- `takeout::take_run` meets its contract: 25, or the sheet and its count of words.
 -- Assumes nothing.
-use mathlib.Core.Path.{refl, ap, _∙_}
+use mathlib.Core.Path.{refl, sym, ap, _∙_}
 use mathlib.Core.List.{_++_}
-use Prim.Native.Nat.{ℕ}
+use Prim.Native.Nat.{ℕ, _≤_}
 use native.Mathlib.Omega.{arith}
 use lib.ListN.{drop}
+use Rattle.sheet.specs.Limits.{maxNodes, maxEdges}
+use Rattle.sheet.proofs.Widths.{few}
 use Rattle.question.proofs.Telling.{show-short, show-written}
 use Rattle.combine.proofs.Whole.{there}
 use Rattle.takeout.proofs.Running.{run-pair, run-few, run-taken}
@@ -16,44 +18,32 @@ measure-of-requires : tie.Need-measure-of-requires
 measure-of-requires c κs = let S = c .before .before in
     run-pair _ _ (S .pre .0) (S .args .k) (S .args .count) _ _ (S .pre .1) (S .pre .2) (S .pre .3) (S .pre .4)
 
-mul-size : tie.Need-mul-size
-mul-size c = let S = c .before .before .before in
+-- what is taken has no more rows than the sheet
+fits : (c : tie.After-measure-of) → (c .measure-of .result .nodes ≤ maxNodes) × (c .measure-of .result .edges ≤ maxEdges (c .before .before .before .args .h .form))
+fits c = let S = c .before .before .before in
     let f = run-few _ _ (S .pre .0) _ _ _ _ (S .pre .1) (S .pre .2) _ (c .measure-of .ensures) in
-    omega (arith, f .0, S .pre .0 .nodes .header .nodes, S .pre .0 .nodes .header .edges)
+    (omega (arith, f .0, S .pre .0 .nodes .header .nodes), omega (arith, f .1, S .pre .0 .nodes .header .edges))
 
-add-size : tie.Need-add-size
-add-size c = let S = c .before .before .before in
-    let f = run-few _ _ (S .pre .0) _ _ _ _ (S .pre .1) (S .pre .2) _ (c .measure-of .ensures) in
-    omega (arith, f .0, S .pre .0 .nodes .header .nodes, S .pre .0 .nodes .header .edges)
-
-mul-size-2 : tie.Need-mul-size-2
-mul-size-2 c = let S = c .before .before .before in
-    let f = run-few _ _ (S .pre .0) _ _ _ _ (S .pre .1) (S .pre .2) _ (c .measure-of .ensures) in
-    omega (arith, f .1, S .pre .0 .nodes .header .nodes, S .pre .0 .nodes .header .edges)
-
-add-size-2 : tie.Need-add-size-2
-add-size-2 c = let S = c .before .before .before in
-    let f = run-few _ _ (S .pre .0) _ _ _ _ (S .pre .1) (S .pre .2) _ (c .measure-of .ensures) in
-    omega (arith, f .0, f .1, S .pre .0 .nodes .header .nodes, S .pre .0 .nodes .header .edges)
+sheet-words-requires : tie.Need-sheet-words-requires
+sheet-words-requires c κs = fits c
 
 refused-by-requires : tie.Need-refused-by-requires
 refused-by-requires c κs = search needs
 
 returns : tie.Need-returns
-returns c = let S = c .before .before .before .before .before in
-    let f = run-few _ _ (S .pre .0) _ _ _ _ (S .pre .1) (S .pre .2) _ (c .before .before .measure-of .ensures) in
-    let T = there _ _ _ _ _ _ _ _ (run-pair _ _ (S .pre .0) (S .args .k) (S .args .count) _ _ (S .pre .1) (S .pre .2) (S .pre .3) (S .pre .4)) (c .before .before .measure-of .ensures) (omega (arith, f .0, S .pre .0 .nodes .header .nodes, S .pre .0 .nodes .header .edges)) (omega (arith, f .1, S .pre .0 .nodes .header .nodes, S .pre .0 .nodes .header .edges)) in
-    show-short _ _ _ _ (T .sheet) _ (run-taken _ _ (S .pre .0) _ _ _ _ (S .pre .1) (S .pre .2) (T .sheet) (T .is)) (T .long) (c .before .if1 .taken) (c .refused-by .ensures) refl
+returns c = let S = c .before .before .before .before .before .before in
+    let M = c .before .before .before in
+    let T = there _ _ _ _ _ _ _ _ (run-pair _ _ (S .pre .0) (S .args .k) (S .args .count) _ _ (S .pre .1) (S .pre .2) (S .pre .3) (S .pre .4)) (M .measure-of .ensures) (fits M .0) (fits M .1) in
+    show-short _ _ _ _ (T .sheet) _ (run-taken _ _ (S .pre .0) _ _ _ _ (S .pre .1) (S .pre .2) (T .sheet) (T .is)) (T .long ∙ sym (c .before .before .sheet-words .ensures)) (c .before .if1 .taken) (c .refused-by .ensures) refl
 
 lay-requires : tie.Need-lay-requires
-lay-requires c κs = let S = c .before .before .before .before .before in
-    let f = run-few _ _ (S .pre .0) _ _ _ _ (S .pre .1) (S .pre .2) _ (c .before .before .measure-of .ensures) in
-    (run-pair _ _ (S .pre .0) (S .args .k) (S .args .count) _ _ (S .pre .1) (S .pre .2) (S .pre .3) (S .pre .4), c .before .before .measure-of .ensures, omega (arith, f .0, S .pre .0 .nodes .header .nodes, S .pre .0 .nodes .header .edges), omega (arith, f .1, S .pre .0 .nodes .header .nodes, S .pre .0 .nodes .header .edges), c .before .if1 .left)
+lay-requires c κs = let S = c .before .before .before .before .before .before in
+    let M = c .before .before .before in
+    (run-pair _ _ (S .pre .0) (S .args .k) (S .args .count) _ _ (S .pre .1) (S .pre .2) (S .pre .3) (S .pre .4), M .measure-of .ensures, fits M .0, fits M .1, omega (arith, c .before .before .sheet-words .ensures, c .before .if1 .left))
 
 cast-told : tie.Need-cast-told
-cast-told c = let S = c .before .before .before .before .before .before .before .before in
-    let f = run-few _ _ (S .pre .0) _ _ _ _ (S .pre .1) (S .pre .2) _ (c .before .before .before .before .before .measure-of .ensures) in
-    omega (arith, f .0, f .1, S .pre .0 .nodes .header .nodes, S .pre .0 .nodes .header .edges)
+cast-told c = let M = c .before .before .before .before .before .before in
+    omega (arith, c .before .before .before .before .before .sheet-words .ensures, fits M .0, few _ _ (fits M .1) .1)
 
 told-requires : tie.Need-told-requires
 told-requires c κs = search needs
@@ -62,19 +52,17 @@ same-length : tie.Need-same-length
 same-length c = search needs
 
 returns-2 : tie.Need-returns-2
-returns-2 c = let S = c .before .before .before .before .before .before .before .before .before in
+returns-2 c = let S = c .before .before .before .before .before .before .before .before .before .before in
     let L = c .before .before .before .lay .ensures in
-    show-written _ _ _ _ (L .sheet) _ (run-taken _ _ (S .pre .0) _ _ _ _ (S .pre .1) (S .pre .2) (L .sheet) (L .is)) (L .long) (c .before .before .before .before .before .if1 .left) (c .told .ensures) (L .holds ∙ ap (λ (x : ℕ). L .sheet ++ drop x (S .args .out .now)) (L .long))
+    let long = L .long ∙ sym (c .before .before .before .before .before .before .sheet-words .ensures) in
+    show-written _ _ _ _ (L .sheet) _ (run-taken _ _ (S .pre .0) _ _ _ _ (S .pre .1) (S .pre .2) (L .sheet) (L .is)) long (c .before .before .before .before .before .if1 .left) (c .told .ensures) (L .holds ∙ ap (λ (x : ℕ). L .sheet ++ drop x (S .args .out .now)) long)
 
 pub take-run-spec : {M : Type 1} → statement M
 take-run-spec =
     tie.close
     (tie.spec
     measure-of-requires
-    mul-size
-    add-size
-    mul-size-2
-    add-size-2
+    sheet-words-requires
     refused-by-requires
     returns
     lay-requires

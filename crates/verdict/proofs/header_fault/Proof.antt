@@ -1,6 +1,12 @@
 -- `verdict::header_fault` meets its contract: each early return is a line of `headerFault`.
 -- Assumes nothing.
+use Prim.Native.Nat.{ℕ, _≤_}
+use mathlib.Core.Path.{subst}
+use lib.Dec.{ltb}
 use borrow.Author.Needs.{needs}
+use borrow.Author.Tests.{ltb-false}
+use Rattle.sheet.specs.Limits.{maxNodes}
+use Rattle.sheet.proofs.Accepting.{or-false}
 use Rattle.sheet.proofs.Refusing.{lines}
 use Rattle.sheet.specs.Verdict.{headerFault}
 use Rattle.verdict.proofs.header_fault.Statement.{statement}
@@ -32,23 +38,28 @@ returns-2 : tie.Need-returns-2
 unfolding headerFault
 returns-2 c = search lines depth 10
 
+max-edges-requires : tie.Need-max-edges-requires
+max-edges-requires c κs = search needs
+
 returns-3 : tie.Need-returns-3
 unfolding headerFault
-returns-3 c = search lines depth 10
+returns-3 c = rw (← c .before .before .before .max-edges .ensures) (search lines depth 10)
 
-mul-if4 : tie.Need-mul-if4
-mul-if4 c = search needs
-
-add-if4 : tie.Need-add-if4
-add-if4 c = search needs
+-- past 4, the rows are within the limits
+sheet-words-requires : tie.Need-sheet-words-requires
+sheet-words-requires c κs =
+    let h = c .before .before .before .before .before .before .before .before .before .before .before .before .before .args .h in
+    let most = c .before .before .before .max-edges in
+    let l = or-false (ltb maxNodes (h .nodes)) (ltb (most .result) (h .edges)) (c .if3 .left) in
+    (ltb-false maxNodes (h .nodes) (l .0), subst (λ (x : ℕ). h .edges ≤ x) (most .ensures) (ltb-false (most .result) (h .edges) (l .1)))
 
 returns-4 : tie.Need-returns-4
 unfolding headerFault
-returns-4 c = search lines depth 10
+returns-4 c = rw (← c .before .before .before .before .before .max-edges .ensures, ← c .before .sheet-words .ensures) (search lines depth 10)
 
 returns-5 : tie.Need-returns-5
 unfolding headerFault
-returns-5 c = search lines depth 10
+returns-5 c = rw (← c .before .before .before .before .before .max-edges .ensures, ← c .before .sheet-words .ensures) (search lines depth 10)
 
 pub header-fault-spec : {M : Type 1} → statement M
 header-fault-spec =
@@ -62,8 +73,8 @@ header-fault-spec =
     add-edges-from
     returns
     returns-2
+    max-edges-requires
     returns-3
-    mul-if4
-    add-if4
+    sheet-words-requires
     returns-4
     returns-5)
