@@ -164,14 +164,14 @@ TormukaiRefusal tormukai_file_of_words(const uint32_t *sheet, size_t sheet_lengt
 /* Question 1: may the person do the deed on the folio, at one office? Any variant of the deed serves.
  * Answers: value 0 undetermined, 1 granted, 2 banned, 3 both. Writes: nothing.
  * Refuses with: 33, 1 to 17, 20, 21, 22, 23.
- * Stack: at most 66,560 bytes. */
+ * Stack: at most 56,320 bytes. */
 TormukaiAnswer tormukai_answer(const uint8_t *file, size_t file_length, uint32_t office, uint32_t person, uint32_t deed,
                                uint32_t folio);
 
 /* Question 2: the joint answer of all the sheet's offices under rule 1 grant-first, 2 deny-first or 3 first-applicable.
  * Answers: value as in question 1; count the deciding office, 0 where undetermined. Writes: nothing.
  * Refuses with: 33, 1 to 17, 27, 21, 22, 23.
- * Stack: at most 66,560 bytes. */
+ * Stack: at most 56,320 bytes. */
 TormukaiAnswer tormukai_joint_answer(const uint8_t *file, size_t file_length, uint32_t rule, uint32_t person, uint32_t deed,
                                      uint32_t folio);
 
@@ -180,7 +180,7 @@ TormukaiAnswer tormukai_joint_answer(const uint8_t *file, size_t file_length, ui
  * Answers: count the bytes written. Writes: the path, for each node its number and its variant, four bytes each, low byte
  * first: eight bytes a node, the person first, then the categories, the deed, the folio.
  * Refuses with: 33, 1 to 17, 20, 21, 22, 23, 26 (no such path), 25 (out_length is under the path's bytes).
- * Stack: at most 74,752 bytes. */
+ * Stack: at most 64,512 bytes. */
 TormukaiAnswer tormukai_witness(const uint8_t *file, size_t file_length, uint32_t office, uint32_t kind, uint32_t person,
                                 uint32_t deed, uint32_t folio, uint8_t *out, size_t out_length);
 
@@ -205,19 +205,19 @@ TormukaiJoined tormukai_join_files(const uint8_t *first, size_t first_length, co
 TormukaiRefusal tormukai_check(const uint32_t *sheet, size_t sheet_length);
 
 /* Question 1, as tormukai_answer. Refuses with: 1 to 17, 20, 21, 22, 23.
- * Stack: at most 25,600 bytes. */
+ * Stack: at most 15,360 bytes. */
 TormukaiAnswer tormukai_sheet_answer(const uint32_t *sheet, size_t sheet_length, uint32_t office, uint32_t person,
                                      uint32_t deed, uint32_t folio);
 
 /* Question 2, as tormukai_joint_answer. Refuses with: 1 to 17, 27, 21, 22, 23.
- * Stack: at most 25,600 bytes. */
+ * Stack: at most 15,360 bytes. */
 TormukaiAnswer tormukai_sheet_joint_answer(const uint32_t *sheet, size_t sheet_length, uint32_t rule, uint32_t person,
                                            uint32_t deed, uint32_t folio);
 
 /* Question 3, as tormukai_witness, but the path comes as words.
  * Answers: count the words written. Writes: the path, for each node its number and its variant, the person first.
  * Refuses with: 1 to 17, 20, 21, 22, 23, 26 (no such path), 25.
- * Stack: at most 29,696 bytes. */
+ * Stack: at most 19,456 bytes. */
 TormukaiAnswer tormukai_sheet_witness(const uint32_t *sheet, size_t sheet_length, uint32_t office, uint32_t kind,
                                       uint32_t person, uint32_t deed, uint32_t folio, uint32_t *out, size_t out_length);
 
@@ -230,25 +230,25 @@ TormukaiAnswer tormukai_is_path(const uint32_t *sheet, size_t sheet_length, uint
 
 /* Question 5: who is in a category at an office, directly or through containment?
  * Answers: count the words written. Writes: the persons' numbers, rising. Refuses with: 1 to 17, 20, 24, 25.
- * Stack: at most 89,088 bytes. */
+ * Stack: at most 62,464 bytes. */
 TormukaiAnswer tormukai_persons_in_category(const uint32_t *sheet, size_t sheet_length, uint32_t office, uint32_t category,
                                             uint32_t *out, size_t out_length);
 
 /* Question 6: who has a grant path for the deed and the folio at an office?
  * Answers: count the words written. Writes: the persons' numbers, rising. Refuses with: 1 to 17, 20, 22, 23, 25.
- * Stack: at most 89,088 bytes. */
+ * Stack: at most 62,464 bytes. */
 TormukaiAnswer tormukai_persons_with_grant(const uint32_t *sheet, size_t sheet_length, uint32_t office, uint32_t deed,
                                            uint32_t folio, uint32_t *out, size_t out_length);
 
 /* Question 7: to which folios has no person a grant path by any deed, at an office?
  * Answers: count the words written. Writes: the folios' numbers, rising. Refuses with: 1 to 17, 20, 25.
- * Stack: at most 84,992 bytes. */
+ * Stack: at most 56,320 bytes. */
 TormukaiAnswer tormukai_folios_out_of_reach(const uint32_t *sheet, size_t sheet_length, uint32_t office, uint32_t *out,
                                             size_t out_length);
 
 /* Question 8: the least triple that is both granted and banned at an office; persons are compared first, then deeds.
  * Answers: count 3. Writes: person, deed, folio. Refuses with: 1 to 17, 20, 26 (there is none), 25.
- * Stack: at most 64,512 bytes. */
+ * Stack: at most 46,080 bytes. */
 TormukaiAnswer tormukai_least_triple(const uint32_t *sheet, size_t sheet_length, uint32_t office, uint32_t *out,
                                      size_t out_length);
 
@@ -256,14 +256,14 @@ TormukaiAnswer tormukai_least_triple(const uint32_t *sheet, size_t sheet_length,
  * compared first.
  * Answers: count 2. Writes: person, folio.
  * Refuses with: 1 to 17, 20, 22, 31 (the deeds are equal), 26 (there is none), 25.
- * Stack: at most 64,512 bytes. */
+ * Stack: at most 46,080 bytes. */
 TormukaiAnswer tormukai_least_holder(const uint32_t *sheet, size_t sheet_length, uint32_t office, uint32_t deed,
                                      uint32_t other, uint32_t *out, size_t out_length);
 
 /* Question 10: which edge rows are redundant at an office?
  * Answers: count the words written. Writes: their indices in the edge table, from 0, rising.
  * Refuses with: 1 to 17, 20, 25.
- * Stack: at most 64,512 bytes. */
+ * Stack: at most 46,080 bytes. */
 TormukaiAnswer tormukai_redundant_edges(const uint32_t *sheet, size_t sheet_length, uint32_t office, uint32_t *out,
                                         size_t out_length);
 

@@ -241,7 +241,8 @@ pub fn least_holder_at(
     ensures { λ r. ⌜ Finds (LeastHolderIs (seenFrom (now (sheet .entry)) seat) (q .deed) (q .other)) (now (list .exit)) r ⌝ }
 {
     let w = walk::walk_of(seat, GRANT, 0);
-    let index = walk::arranged(sheet, edges, h, w);
+    let mut index = walk::blank_index();
+    walk::arrange(sheet, edges, h, w, &mut index);
     let hit = first_pair(sheet, edges, h, q, w, &index);
     if !hit.found {
         return reach::NONE;
@@ -296,9 +297,11 @@ pub fn least_triple_at(sheet: &[u32], edges: &[u32], h: Header, seat: Seat, list
     ensures { λ r. ⌜ Finds (LeastTripleIs (seenFrom (now (sheet .entry)) seat)) (now (list .exit)) r ⌝ }
 {
     let grants = walk::walk_of(seat, GRANT, 0);
-    let grantindex = walk::arranged(sheet, edges, h, grants);
+    let mut grantindex = walk::blank_index();
+    walk::arrange(sheet, edges, h, grants, &mut grantindex);
     let bans = walk::walk_of(seat, BAN, 0);
-    let banindex = walk::arranged(sheet, edges, h, bans);
+    let mut banindex = walk::blank_index();
+    walk::arrange(sheet, edges, h, bans, &mut banindex);
     let hit = first_both(sheet, edges, h, grants, &grantindex, bans, &banindex);
     if !hit.found {
         return reach::NONE;

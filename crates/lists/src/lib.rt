@@ -147,7 +147,8 @@ fn persons_to(
     ensures { λ r. ⌜ Finds (Rising (PersonLeads (now (sheet .entry)) (now (edges .entry)) h (seat .office) (walkOf seat 3 deed) to)) (now (list .exit)) r ⌝ }
 {
     let w = walk::walk_of(seat, GRANT, deed);
-    let index = walk::arranged(sheet, edges, h, w);
+    let mut index = walk::blank_index();
+    walk::arrange(sheet, edges, h, w, &mut index);
     let m = persons_reaching(sheet, edges, h, w, &index, to);
     numbers_of(sheet, h, seat, PERSON, true, m, list)
 }

@@ -119,7 +119,15 @@ pub fn redundant_edges_at(
     requires { ⌜ AtSeat (now sheet) (now edges) h seat × (length (now list) ≡ mostEdges) ⌝ }
     ensures { λ r. ⌜ Finds (RedundantEdgesAre (now (sheet .entry)) (seat .office)) (now (list .exit)) r ⌝ }
 {
-    let grantindex = walk::arranged(sheet, edges, h, walk::walk_of(seat, GRANT, 0));
-    let banindex = walk::arranged(sheet, edges, h, walk::walk_of(seat, BAN, 0));
+    let mut grantindex = walk::blank_index();
+    walk::arrange(
+        sheet,
+        edges,
+        h,
+        walk::walk_of(seat, GRANT, 0),
+        &mut grantindex,
+    );
+    let mut banindex = walk::blank_index();
+    walk::arrange(sheet, edges, h, walk::walk_of(seat, BAN, 0), &mut banindex);
     prune(sheet, edges, h, seat, &grantindex, &banindex, list)
 }
