@@ -193,7 +193,7 @@ TormukaiRefusal tormukai_check_file(const uint8_t *file, size_t file_length);
  * The two inputs may be the same.
  * Answers: as tormukai_join; words counts words, so 4 * words bytes are written. Writes: the joint sheet's file.
  * Refuses with: 33 and 1 to 17 of the first, then of the second; 28 of the first, then of the second; 29, 30, 25.
- * Stack: at most 140,800 bytes. */
+ * Stack: at most 128,512 bytes. */
 TormukaiJoined tormukai_join_files(const uint8_t *first, size_t first_length, const uint8_t *second, size_t second_length,
                                    uint8_t *out, size_t out_length);
 
@@ -270,13 +270,13 @@ TormukaiAnswer tormukai_redundant_edges(const uint32_t *sheet, size_t sheet_leng
 /* Joins two one-office sheets into a two-office sheet, equal identities and relations once. The two inputs may be the same.
  * Answers: the joint sheet's counts and how much is shared. Writes: the joint sheet.
  * Refuses with: 1 to 17 of the first, then of the second; 28 of the first, then of the second; 29, 30, 25.
- * Stack: at most 17,920 bytes. */
+ * Stack: at most 5,632 bytes. */
 TormukaiJoined tormukai_join(const uint32_t *first, size_t first_length, const uint32_t *second, size_t second_length,
                              uint32_t *out, size_t out_length);
 
 /* Takes an office out of a sheet: its rows alone, their ends renumbered, as a sheet of one office.
  * Answers: count the words written. Writes: that sheet. Refuses with: 1 to 17, 20, 25.
- * Stack: at most 17,408 bytes. */
+ * Stack: at most 5,632 bytes. */
 TormukaiAnswer tormukai_take_out(const uint32_t *sheet, size_t sheet_length, uint32_t office, uint32_t *out,
                                  size_t out_length);
 

@@ -22,7 +22,7 @@ use Rattle.combine.proofs.Whole.{node-inputs}
 
 -- ---- what was measured
 
-module _ (nodes edges : Rule) (c : ℕ) (a : List ℕ) (h : Header) (b : List ℕ) (g : Header) (Q : Pair nodes edges c a h b g) (m m′ : Measure) (M : Measured nodes edges a h b g m) (M′ : Measured nodes edges a h b g m′) where
+module _ (nodes edges : Rule) (c : ℕ) (a : List ℕ) (h : Header) (b : List ℕ) (g : Header) (Q : Pair nodes edges c a h b g) (ma mb ma′ mb′ : List ℕ) (m m′ : Measure) (M : Measured nodes edges a h b g ma mb m) (M′ : Measured nodes edges a h b g ma′ mb′ m′) where
   pub counts-one : (m .nodes ≡ m′ .nodes) × (m .edges ≡ m′ .edges)
   counts-one = (M .node-rows .count ∙ sym (M′ .node-rows .count), M .edge-rows ∙ sym (M′ .edge-rows))
 
@@ -33,7 +33,7 @@ module _ (nodes edges : Rule) (c : ℕ) (a : List ℕ) (h : Header) (b : List �
       place-one (keys (M′ .node-rows .row)) (m′ .nodes) (M′ .node-rows .combined .table .up) (rowAt Nodes s x .key) (map x) (map′ x)
       (subst (λ (k : ℕ). PlaceIs (keys (M′ .node-rows .row)) k (rowAt Nodes s x .key) (map x)) (rows .0) (place-alike _ _ (m .nodes) _ _ (rows .1) (L x l))) (L′ x l)
 
-  pub places-one : ((x : ℕ) → x < h .nodes → getD (m .first) x 0 ≡ getD (m′ .first) x 0) × ((y : ℕ) → y < g .nodes → getD (m .second) y 0 ≡ getD (m′ .second) y 0)
+  pub places-one : ((x : ℕ) → x < h .nodes → getD ma x 0 ≡ getD ma′ x 0) × ((y : ℕ) → y < g .nodes → getD mb y 0 ≡ getD mb′ y 0)
   places-one = (
     place-same a (h .nodes) _ _ (M .node-rows .first (omega (arith, M .first-long, Q .first .nodes .header .nodes))) (M′ .node-rows .first (omega (arith, M′ .first-long, Q .first .nodes .header .nodes))),
     place-same b (g .nodes) _ _ (M .node-rows .second (omega (arith, M .second-long, Q .second .nodes .header .nodes))) (M′ .node-rows .second (omega (arith, M′ .second-long, Q .second .nodes .header .nodes))),

@@ -72,7 +72,7 @@ module _ (nodes edges : Rule) (c : ℕ) (a : List ℕ) (h : Header) (b : List �
   pub edge-inputs : Inputs a h b g edges
   edge-inputs = record { first = Q .first; second = Q .second; safe = Q .safe-edges; none = Q .rules .edges .none }
 
-module _ (nodes edges : Rule) (c : ℕ) (a b : List ℕ) (Q : Pair nodes edges c a (headerOf a) b (headerOf b)) (m : Measure) (M : Measured nodes edges a (headerOf a) b (headerOf b) m)
+module _ (nodes edges : Rule) (c : ℕ) (a b : List ℕ) (Q : Pair nodes edges c a (headerOf a) b (headerOf b)) (ma mb : List ℕ) (m : Measure) (M : Measured nodes edges a (headerOf a) b (headerOf b) ma mb m)
     (few-nodes : m .nodes ≤ maxNodes) (few-edges : m .edges ≤ maxEdges (headerOf a .form)) where
   -- the places that were noted are places in what is written
   places : (s : List ℕ) (map : List ℕ) → Accepted s → length map ≡ maxNodes → (row : ℕ → Row) → Combined (makes nodes) (headerOf a .nodes) (nodeRow a) (headerOf b .nodes) (nodeRow b) (m .nodes) row
@@ -104,7 +104,7 @@ module _ (nodes edges : Rule) (c : ℕ) (a b : List ℕ) (Q : Pair nodes edges c
     headed = first ∙ sets-eq (headerSix form c n e) out 0 (omega arith)
 
     laid : (t : List ℕ) → Written nodes Nodes a (headerOf a) b (headerOf b) [] [] n (take (length l - 6) (drop 6 l)) t → (k : List ℕ) → k ≡ take 6 l ++ (t ++ drop (length l - 6) (drop 6 l))
-        → (u : List ℕ) → Written edges Edges a (headerOf a) b (headerOf b) (m .first) (m .second) e (take (length k - edgesFrom n) (drop (edgesFrom n) k)) u
+        → (u : List ℕ) → Written edges Edges a (headerOf a) b (headerOf b) ma mb e (take (length k - edgesFrom n) (drop (edgesFrom n) k)) u
         → Laid nodes edges c a (headerOf a) b (headerOf b) m out (take (edgesFrom n) k ++ (u ++ drop (length k - edgesFrom n) (drop (edgesFrom n) k)))
     laid t WN k second u WE =
         let wn = WN .words in
@@ -116,8 +116,8 @@ module _ (nodes edges : Rule) (c : ℕ) (a b : List ℕ) (Q : Pair nodes edges c
         let all : length (headerSix form c n e ++ wn ++ we) ≡ sheetWords form n e = built-long form c n e wn we (WN .spells .long) (WE .spells .long) in
         record {
           sheet = headerSix form c n e ++ wn ++ we;
-          is = combined (makes nodes) (makes edges) c a b (Q .first) (Q .second) (Q .rules) (Q .low) (Q .high) n e few-nodes few-edges wn we (m .first) (m .second) (WN .row) (WE .row) (WN .combined) (WE .combined) (WN .spells) (WE .spells)
-              (places a (m .first) (Q .first) (M .first-long) (WN .row) (WN .combined) (M .node-rows .first)) (places b (m .second) (Q .second) (M .second-long) (WN .row) (WN .combined) (M .node-rows .second));
+          is = combined (makes nodes) (makes edges) c a b (Q .first) (Q .second) (Q .rules) (Q .low) (Q .high) n e few-nodes few-edges wn we ma mb (WN .row) (WE .row) (WN .combined) (WE .combined) (WN .spells) (WE .spells)
+              (places a ma (Q .first) (M .first-long) (WN .row) (WN .combined) (M .node-rows .first)) (places b mb (Q .second) (M .second-long) (WN .row) (WN .combined) (M .node-rows .second));
           long = all;
           rows = (ap (λ (x : Header). x .nodes) hd, ap (λ (x : Header). x .edges) hd);
           holds = lent-front k (headerSix form c n e ++ wn) (drop (length wn) (drop 6 out)) we u (edgesFrom n) s long (WE .holds)
@@ -125,23 +125,23 @@ module _ (nodes edges : Rule) (c : ℕ) (a b : List ℕ) (Q : Pair nodes edges c
         }
 
 -- .. under the headers that the sheets have
-abbrev LaidBy : Rule → Rule → ℕ → List ℕ → Header → List ℕ → Header → Measure → Type 0
-LaidBy nodes edges c a h b g m =
-    Pair nodes edges c a h b g → Measured nodes edges a h b g m → m .nodes ≤ maxNodes → m .edges ≤ maxEdges (h .form) → (out l : List ℕ) → sheetWords (h .form) (m .nodes) (m .edges) ≤ length out → l ≡ sets out 0 (headerSix (h .form) c (m .nodes) (m .edges))
+abbrev LaidBy : Rule → Rule → ℕ → List ℕ → Header → List ℕ → Header → List ℕ → List ℕ → Measure → Type 0
+LaidBy nodes edges c a h b g ma mb m =
+    Pair nodes edges c a h b g → Measured nodes edges a h b g ma mb m → m .nodes ≤ maxNodes → m .edges ≤ maxEdges (h .form) → (out l : List ℕ) → sheetWords (h .form) (m .nodes) (m .edges) ≤ length out → l ≡ sets out 0 (headerSix (h .form) c (m .nodes) (m .edges))
     → (t : List ℕ) → Written nodes Nodes a h b g [] [] (keptRows nodes Nodes a h b g) (take (length l - 6) (drop 6 l)) t → (k : List ℕ) → k ≡ take 6 l ++ (t ++ drop (length l - 6) (drop 6 l))
-    → (u : List ℕ) → Written edges Edges a h b g (m .first) (m .second) (keptRows edges Edges a h b g) (take (length k - edgesFrom (m .nodes)) (drop (edgesFrom (m .nodes)) k)) u
+    → (u : List ℕ) → Written edges Edges a h b g ma mb (keptRows edges Edges a h b g) (take (length k - edgesFrom (m .nodes)) (drop (edgesFrom (m .nodes)) k)) u
     → Laid nodes edges c a h b g m out (take (edgesFrom (m .nodes)) k ++ (u ++ drop (length k - edgesFrom (m .nodes)) (drop (edgesFrom (m .nodes)) k)))
 
-pub laid-by : (nodes edges : Rule) (c : ℕ) (a : List ℕ) (h : Header) (b : List ℕ) (g : Header) (m : Measure) → LaidBy nodes edges c a h b g m
-laid-by nodes edges c a h b g m Q =
-    subst (λ (x : Header). LaidBy nodes edges c a x b g m) (sym (Q .first .head))
-    (subst (λ (y : Header). LaidBy nodes edges c a (headerOf a) b y m) (sym (Q .second .head)) own) Q
+pub laid-by : (nodes edges : Rule) (c : ℕ) (a : List ℕ) (h : Header) (b : List ℕ) (g : Header) (ma mb : List ℕ) (m : Measure) → LaidBy nodes edges c a h b g ma mb m
+laid-by nodes edges c a h b g ma mb m Q =
+    subst (λ (x : Header). LaidBy nodes edges c a x b g ma mb m) (sym (Q .first .head))
+    (subst (λ (y : Header). LaidBy nodes edges c a (headerOf a) b y ma mb m) (sym (Q .second .head)) own) Q
   where
-    own : LaidBy nodes edges c a (headerOf a) b (headerOf b) m
+    own : LaidBy nodes edges c a (headerOf a) b (headerOf b) ma mb m
     own Q M x y out l room first t WN k second u WE =
-        laid nodes edges c a b Q m M x y out l room first t
+        laid nodes edges c a b Q ma mb m M x y out l room first t
         (subst (λ (z : ℕ). Written nodes Nodes a (headerOf a) b (headerOf b) [] [] z (take (length l - 6) (drop 6 l)) t) (sym (M .node-rows .count)) WN) k second u
-        (subst (λ (z : ℕ). Written edges Edges a (headerOf a) b (headerOf b) (m .first) (m .second) z (take (length k - edgesFrom (m .nodes)) (drop (edgesFrom (m .nodes)) k)) u) (sym (M .edge-rows)) WE)
+        (subst (λ (z : ℕ). Written edges Edges a (headerOf a) b (headerOf b) ma mb z (take (length k - edgesFrom (m .nodes)) (drop (edgesFrom (m .nodes)) k)) u) (sym (M .edge-rows)) WE)
 
 -- there is such a sheet, whatever the output
 pub record There (nodes edges : Rule) (c : ℕ) (a : List ℕ) (h : Header) (b : List ℕ) (g : Header) (m : Measure) : Type 0 where
@@ -149,15 +149,15 @@ pub record There (nodes edges : Rule) (c : ℕ) (a : List ℕ) (h : Header) (b :
   pub is : IsCombined (makes nodes) (makes edges) c a b sheet
   pub long : length sheet ≡ sheetWords (h .form) (m .nodes) (m .edges)
 
-pub there : (nodes edges : Rule) (c : ℕ) (a : List ℕ) (h : Header) (b : List ℕ) (g : Header) (m : Measure) → Pair nodes edges c a h b g → Measured nodes edges a h b g m → m .nodes ≤ maxNodes → m .edges ≤ maxEdges (h .form) → There nodes edges c a h b g m
-there nodes edges c a h b g m Q M x y =
+pub there : (nodes edges : Rule) (c : ℕ) (a : List ℕ) (h : Header) (b : List ℕ) (g : Header) (ma mb : List ℕ) (m : Measure) → Pair nodes edges c a h b g → Measured nodes edges a h b g ma mb m → m .nodes ≤ maxNodes → m .edges ≤ maxEdges (h .form) → There nodes edges c a h b g m
+there nodes edges c a h b g ma mb m Q M x y =
     let out = replicate {A = ℕ} (sheetWords (h .form) (m .nodes) (m .edges)) 0 in
     let room : sheetWords (h .form) (m .nodes) (m .edges) ≤ length out = omega (arith, length-replicate {A = ℕ} (sheetWords (h .form) (m .nodes) (m .edges)) 0) in
     let l = sets out 0 (headerSix (h .form) c (m .nodes) (m .edges)) in
     let long : length l ≡ length out = length-sets out 0 (headerSix (h .form) c (m .nodes) (m .edges)) in
     let N = writes nodes Nodes a h b g (node-inputs nodes edges c a h b g Q) [] [] (take (length l - 6) (drop 6 l)) (omega (arith, M .node-rows .count, first-room (h .form) l (m .nodes) (m .edges) (omega arith))) in
     let k = take 6 l ++ (N .after ++ drop (length l - 6) (drop 6 l)) in
-    let E = writes edges Edges a h b g (edge-inputs nodes edges c a h b g Q) (m .first) (m .second) (take (length k - edgesFrom (m .nodes)) (drop (edgesFrom (m .nodes)) k))
+    let E = writes edges Edges a h b g (edge-inputs nodes edges c a h b g Q) ma mb (take (length k - edgesFrom (m .nodes)) (drop (edgesFrom (m .nodes)) k))
     (omega (arith, ap (edgePlace (h .form)) (M .edge-rows), second-room l (N .after) 6 (edgesFrom (m .nodes)) (edgePlace (h .form) (m .edges)) (omega arith) (written-long _ _ _ _ _ _ _ _ _ _ _ (N .is) (omega (arith, M .node-rows .count, first-room (h .form) l (m .nodes) (m .edges) (omega arith)))) (omega arith))) in
-    let L = laid-by nodes edges c a h b g m Q M x y out l room refl (N .after) (N .is) k refl (E .after) (E .is) in
+    let L = laid-by nodes edges c a h b g ma mb m Q M x y out l room refl (N .after) (N .is) k refl (E .after) (E .is) in
     record { sheet = L .sheet; is = L .is; long = L .long }

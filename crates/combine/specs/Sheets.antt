@@ -36,10 +36,10 @@ pub record Pair (nodes edges : Rule) (offices : ℕ) (a : List ℕ) (h : Header)
   pub high : offices ≤ maxOffices
 
 -- how many rows the combination has, and where the node rows of both sheets stand in it
-pub record Measured (nodes edges : Rule) (a : List ℕ) (h : Header) (b : List ℕ) (g : Header) (m : Measure) : Type 0 where
-  pub first-long : length (m .first) ≡ maxNodes
-  pub second-long : length (m .second) ≡ maxNodes
-  pub node-rows : Surveyed nodes Nodes a h b g (m .first) (m .second) (m .nodes)
+pub record Measured (nodes edges : Rule) (a : List ℕ) (h : Header) (b : List ℕ) (g : Header) (ma mb : List ℕ) (m : Measure) : Type 0 where
+  pub first-long : length ma ≡ maxNodes
+  pub second-long : length mb ≡ maxNodes
+  pub node-rows : Surveyed nodes Nodes a h b g ma mb (m .nodes)
   pub edge-rows : m .edges ≡ keptRows edges Edges a h b g
 
 -- the words of node rows and of edge rows stand behind a header, in front of the output

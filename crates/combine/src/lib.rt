@@ -17,9 +17,6 @@ ghost use Rattle.combine.specs.Rules.{makes, Safe};
 ghost use Rattle.combine.specs.Halves.{through, spelled, Inputs, Moves, MarkedStep, Left, noted, keptRows, Surveyed, Written, storedAt, takenCells};
 ghost use Rattle.combine.specs.Sheets.{Pair, Measured, Laid};
 
-// One number for each node row.
-const ROWS: usize = sheet::MAX_NODES as usize;
-
 // What is made of the marks of two sheets at one key: the second's behind the first's offices, which the shift counts; or those of
 // a run of the first's offices, from the mark `low` on, as many as the span counts.
 pub enum Rule {
@@ -27,10 +24,15 @@ pub enum Rule {
     Run(u32, u32),
 }
 
-// How many rows the combination of two sheets has, and the places of both sheets' node rows in it, as a search finds them.
+// What is made of two sheets: a rule for their nodes, one for their edges, and how many offices the marks are of that they make.
+pub struct Plan {
+    pub nodes: Rule,
+    pub edges: Rule,
+    pub offices: u32,
+}
+
+// How many rows the combination of two sheets has.
 pub struct Measure {
-    pub first: [u32; ROWS],
-    pub second: [u32; ROWS],
     pub nodes: usize,
     pub edges: usize,
 }
@@ -307,22 +309,22 @@ fn write(
     }
 }
 
-// How many rows the combination of two sheets has, and the places of their node rows in it. Nothing is written yet, so that what is too
-// much is known before.
+// How many rows the combination of two sheets has, and in lent words the places of their node rows in it, as a search finds them.
+// Nothing is written yet, so that what is too much is known before.
 pub fn measure_of(
-    nodes: Rule,
-    edges: Rule,
-    offices: u32,
+    plan: Plan,
     first: &[u32],
     h: Header,
     second: &[u32],
     g: Header,
+    firstplaces: &mut [u32],
+    secondplaces: &mut [u32],
 ) -> Measure
-    requires { ⌜ Pair nodes edges offices (now first) h (now second) g ⌝ }
-    ensures { λ r. ⌜ Measured nodes edges (now (first .entry)) h (now (second .entry)) g r ⌝ }
+    requires { ⌜ Pair (plan .nodes) (plan .edges) (plan .offices) (now first) h (now second) g × (length (now firstplaces) ≡ maxNodes) × (length (now secondplaces) ≡ maxNodes) ⌝ }
+    ensures { λ r. ⌜ Measured (plan .nodes) (plan .edges) (now (first .entry)) h (now (second .entry)) g (now (firstplaces .exit)) (now (secondplaces .exit)) r ⌝ }
 {
-    let mut firstplaces = [0u32; ROWS];
-    let mut secondplaces = [0u32; ROWS];
+    let nodes = plan.nodes;
+    let edges = plan.edges;
     let n = survey(
         Half::Nodes,
         nodes,
@@ -330,8 +332,8 @@ pub fn measure_of(
         h,
         second,
         g,
-        &mut firstplaces,
-        &mut secondplaces,
+        firstplaces,
+        secondplaces,
     );
     // nobody asks where an edge row stands
     let mut no_first = [0u32; 1];
@@ -346,35 +348,30 @@ pub fn measure_of(
         &mut no_first,
         &mut no_second,
     );
-    Measure {
-        first: firstplaces,
-        second: secondplaces,
-        nodes: n,
-        edges: e,
-    }
+    Measure { nodes: n, edges: e }
 }
 
 // Writes the combination of two sheets to the front of a lent output, which has room for it: the header, then the node rows; the
 // output from its edge offset onward is lent to the writer of the edge rows.
 pub fn lay(
-    nodes: Rule,
-    edges: Rule,
-    offices: u32,
+    plan: Plan,
     first: &[u32],
     h: Header,
     second: &[u32],
     g: Header,
+    firstplaces: &[u32],
+    secondplaces: &[u32],
     m: Measure,
     out: &mut [u32],
 )
-    requires { ⌜ Pair nodes edges offices (now first) h (now second) g × Measured nodes edges (now first) h (now second) g m × (m .nodes ≤ maxNodes) × (m .edges ≤ maxEdges (h .form)) × (sheetWords (h .form) (m .nodes) (m .edges) ≤ length (now out)) ⌝ }
-    ensures { λ _. ⌜ Laid nodes edges offices (now (first .entry)) h (now (second .entry)) g m (now (out .entry)) (now (out .exit)) ⌝ }
+    requires { ⌜ Pair (plan .nodes) (plan .edges) (plan .offices) (now first) h (now second) g × Measured (plan .nodes) (plan .edges) (now first) h (now second) g (now firstplaces) (now secondplaces) m × (m .nodes ≤ maxNodes) × (m .edges ≤ maxEdges (h .form)) × (sheetWords (h .form) (m .nodes) (m .edges) ≤ length (now out)) ⌝ }
+    ensures { λ _. ⌜ Laid (plan .nodes) (plan .edges) (plan .offices) (now (first .entry)) h (now (second .entry)) g m (now (out .entry)) (now (out .exit)) ⌝ }
 {
+    let nodes = plan.nodes;
+    let edges = plan.edges;
     let n = m.nodes;
     let e = m.edges;
-    let firstplaces = m.first;
-    let secondplaces = m.second;
-    sheet::put_header(out, h.form, offices, n as u32, e as u32);
+    sheet::put_header(out, h.form, plan.offices, n as u32, e as u32);
     let none = &first[0..0];
     write(
         Half::Nodes,
@@ -393,10 +390,10 @@ pub fn lay(
         edges,
         first,
         h,
-        &firstplaces,
+        firstplaces,
         second,
         g,
-        &secondplaces,
+        secondplaces,
         &mut out[from..],
     );
 }

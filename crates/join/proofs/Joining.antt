@@ -70,7 +70,7 @@ module _ (a : List ℕ) (h : Header) (A : Joinable a h) (b : List ℕ) (g : Head
   pub pair : Pair (Beside jointShift) (Beside jointShift) jointOffices a h b g
   pair = beside-pair a h b g jointShift jointOffices first-formed second-formed (sym (ap (λ (o : ℕ). 2 ^ o) (A .one))) (omega (arith, A .one, B .one)) (omega arith)
 
-  module _ (m : Measure) (M : Measured (Beside jointShift) (Beside jointShift) a h b g m) where
+  module _ (ma mb : List ℕ) (m : Measure) (M : Measured (Beside jointShift) (Beside jointShift) a h b g ma mb m) where
     -- the union's rows and the shared ones are as many as both sheets have
     nodes-count : m .nodes + sharedNodes a b ≡ h .nodes + g .nodes
     unfolding sharedNodes nodeRow

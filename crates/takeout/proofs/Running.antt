@@ -42,8 +42,8 @@ module _ (s : List ℕ) (h : Header) (W : WellFormed s (edgeTable s) h) (k n low
       safe = (omega (arith, low-is, pow-pos k), omega (arith, span-is, pow-pos n))
 
   -- no more rows than there were
-  pub run-few : (m : Measure) → Measured (Run low span) (Run low span) s h s h m → (m .nodes ≤ h .nodes) × (m .edges ≤ h .edges)
-  run-few m M = (
+  pub run-few : (ma mb : List ℕ) (m : Measure) → Measured (Run low span) (Run low span) s h s h ma mb m → (m .nodes ≤ h .nodes) × (m .edges ≤ h .edges)
+  run-few ma mb m M = (
     omega (arith, M .node-rows .count, kept-few (λ x y. x / low % span) (h .nodes) (rowAt Nodes s) (h .nodes) (rowAt Nodes s) (λ y. zero-run low span), many-most (firstStays (λ x y. x / low % span) (rowAt Nodes s) (h .nodes) (rowAt Nodes s)) (h .nodes)),
     omega (arith, M .edge-rows, kept-few (λ x y. x / low % span) (h .edges) (rowAt Edges s) (h .edges) (rowAt Edges s) (λ y. zero-run low span), many-most (firstStays (λ x y. x / low % span) (rowAt Edges s) (h .edges) (rowAt Edges s)) (h .edges)),
   )

@@ -83,13 +83,13 @@ module _ (s : List ℕ) (w : Accepted s) (k n : ℕ) where
   map = listOf maxNodes (λ x. place x .at)
 
   measure : Measure
-  measure = record { first = map; second = map; nodes = rows Nodes .rows; edges = rows Edges .rows }
+  measure = record { nodes = rows Nodes .rows; edges = rows Edges .rows }
 
   placed : PlacesIn (rowAt Nodes s) (headerOf s .nodes) (λ x. getD map x 0) (rows Nodes .rows) (rows Nodes .row)
   unfolding map
   placed x l = subst (PlaceIs (keys (rows Nodes .row)) (rows Nodes .rows) (rowAt Nodes s x .key)) (sym (listed-at maxNodes (λ y. place y .at) x (omega (arith, w .nodes .header .nodes)))) (place x .is)
 
-  measured : Measured runRule runRule s (headerOf s) s (headerOf s) measure
+  measured : Measured runRule runRule s (headerOf s) s (headerOf s) map map measure
   unfolding map measure
   measured =
       record {
@@ -101,7 +101,7 @@ module _ (s : List ℕ) (w : Accepted s) (k n : ℕ) where
 
   pub run-sheet : 1 ≤ n → n ≤ maxOffices → RunSheet s k n
   run-sheet low high =
-      let few = run-few s (headerOf s) w k n (2 ^ k) (2 ^ n) refl refl measure measured in
+      let few = run-few s (headerOf s) w k n (2 ^ k) (2 ^ n) refl refl map map measure measured in
       let h = w .nodes .header in
-      let T = there runRule runRule n s (headerOf s) s (headerOf s) measure (run-pair s (headerOf s) w k n (2 ^ k) (2 ^ n) refl refl low high) measured (omega (arith, few .0, h .nodes)) (omega (arith, few .1, h .edges)) in
+      let T = there runRule runRule n s (headerOf s) s (headerOf s) map map measure (run-pair s (headerOf s) w k n (2 ^ k) (2 ^ n) refl refl low high) measured (omega (arith, few .0, h .nodes)) (omega (arith, few .1, h .edges)) in
       record { sheet = T .sheet; is = run-taken s (headerOf s) w k n (2 ^ k) (2 ^ n) refl refl (T .sheet) (T .is); fits = omega (arith, T .long, few .0, place-rises Edges (headerOf s .form) _ _ (few .1), h .whole) }

@@ -46,12 +46,6 @@ mul-from c = search needs
 add-from : tie.Need-add-from
 add-from c = search needs
 
-slice-aggregate-write : tie.Need-slice-aggregate-write
-slice-aggregate-write c = search needs
-
-slice-aggregate-write-2 : tie.Need-slice-aggregate-write-2
-slice-aggregate-write-2 c = search needs
-
 mul-write : tie.Need-mul-write
 mul-write c = search needs
 
@@ -65,17 +59,17 @@ part-write-end-2 : tie.Need-part-write-end-2
 part-write-end-2 c = search needs
 
 write-requires-2 : tie.Need-write-requires-2
-write-requires-2 c κs = let S = c .before .before .before .before .before .before .before .before .before .before .before .before .before .before .before .before .before in
+write-requires-2 c κs = let S = c .before .before .before .before .before .before .before .before .before .before .before .before .before .before .before in
     let P = S .pre in
-    let l = c .before .before .before .before .before .before .before .before .before .before .put-header .kept .0 in
-    (edge-inputs _ _ _ _ _ _ _ (P .0), omega (arith, ap (edgePlace (S .args .h .form)) (P .1 .edge-rows), second-room (c .before .before .before .before .before .before .before .before .before .before .put-header .last .0) (c .before .before .before .before .before .write .last .1 .1 .1 .1 .1 .1 .1 .1 .0) 6 (6 + 4 * S .args .m .nodes) (edgePlace (S .args .h .form) (S .args .m .edges)) (omega (arith, P .4)) (c .before .before .before .before .before .write .kept .1 .1 .1 .1 .1 .1 .1 .1 .0) (omega (arith, P .4))))
+    let l = c .before .before .before .before .before .before .before .before .put-header .kept .0 in
+    (edge-inputs _ _ _ _ _ _ _ (P .0), omega (arith, ap (edgePlace (S .args .h .form)) (P .1 .edge-rows), second-room (c .before .before .before .before .before .before .before .before .put-header .last .0) (c .before .before .before .write .last .1 .1 .1 .1 .1 .1 .1 .1 .0) 6 (6 + 4 * S .args .m .nodes) (edgePlace (S .args .h .form) (S .args .m .edges)) (omega (arith, P .4)) (c .before .before .before .write .kept .1 .1 .1 .1 .1 .1 .1 .1 .0) (omega (arith, P .4))))
 
 same-length : tie.Need-same-length
 same-length c = search needs
 
 returns : tie.Need-returns
-returns c = let P = c .before .before .before .before .before .before .before .before .before .before .before .before .before .before .before .before .before .before .before .before .pre in
-    laid-by _ _ _ _ _ _ _ _ (P .0) (P .1) (P .2) (P .3) _ _ (P .4) (c .before .before .before .before .before .before .before .before .before .before .before .before .before .put-header .ensures) _ (c .before .before .before .before .before .before .before .before .write .ensures) _ refl _ (c .before .before .write2 .ensures)
+returns c = let P = c .before .before .before .before .before .before .before .before .before .before .before .before .before .before .before .before .before .before .pre in
+    laid-by _ _ _ _ _ _ _ _ _ _ (P .0) (P .1) (P .2) (P .3) _ _ (P .4) (c .before .before .before .before .before .before .before .before .before .before .before .put-header .ensures) _ (c .before .before .before .before .before .before .write .ensures) _ refl _ (c .before .before .write2 .ensures)
 
 pub lay-spec : {M : Type 1} → statement M
 lay-spec =
@@ -93,8 +87,6 @@ lay-spec =
     write-requires
     mul-from
     add-from
-    slice-aggregate-write
-    slice-aggregate-write-2
     mul-write
     sub-write-2
     part-write-start-2
