@@ -79,6 +79,7 @@ static const struct {
     [SHEET] = {"FILE", read_name, offsetof(Desk, files[0].name), ""},
     [FIRST] = {"FIRST", read_name, offsetof(Desk, files[0].name), ""},
     [SECOND] = {"SECOND", read_second_name, offsetof(Desk, files), "can be read only once"},
+    [LISTING] = {"LISTING", read_name, offsetof(Desk, listing.name), ""},
     [RESULT] = {"OUT", read_result_name, offsetof(Desk, asked.result), "is no file's name for the result"},
     [OFFICE] = {"OFFICE", read_any_number, offsetof(Desk, asked.office), no_number},
     [RULE] = {"RULE", read_rule, offsetof(Desk, asked.rule),

@@ -20,6 +20,20 @@ typedef struct File {
     uint8_t bytes[TORMUKAI_FILE_BYTES + 1];
 } File;
 
+/* A listing's text. It may have any length. */
+typedef struct Text {
+    const char *name;
+    uint8_t *bytes;
+    size_t length;
+} Text;
+
+/* A line of it, without its line feed. */
+typedef struct Line {
+    const uint8_t *bytes;
+    size_t length;
+    bool has_line_feed;
+} Line;
+
 /* The nodes that were typed for `path`. A type of 0 was left out. */
 typedef struct TypedPath {
     size_t count;
@@ -49,6 +63,7 @@ typedef struct Desk {
     Writer out;
     File files[FILES];
     Sheet sheet;
+    Text listing;
 } Desk;
 
 /* What an argument is. The table in arguments.c says how each is called in a usage line, and how it is read. */
@@ -57,6 +72,7 @@ typedef enum Argument {
     SHEET,
     FIRST,
     SECOND,
+    LISTING,
     RESULT,
     OFFICE,
     RULE,
@@ -76,7 +92,7 @@ typedef struct Verb {
     Argument arguments[ARGUMENTS];
     size_t optional; /* so many of the last arguments may be left out, all together */
     int (*serve)(Desk *desk);
-    uint32_t refusals[REFUSALS]; /* what it can refuse beside 33 and 1 to 17, in the order in which they are tried */
+    uint32_t refusals[REFUSALS]; /* what it can refuse, beside a sheet's 33 and 1 to 17, in the order in which it is tried */
     const char *summary;         /* one line of `counter --help` */
     const char *tells;           /* what `counter VERB --help` says under the usage line */
     const char *example;         /* arguments, run in the folder sheets/ */
@@ -89,6 +105,10 @@ extern const Verb verbs[];
 /* reply.c: begins the reply, so it prints first, once. Tells the refusal and returns true, or returns false where there is none
  * (number 0). */
 bool refused(Desk *desk, TormukaiRefusal refusal);
+
+/* reply.c: the same where the listing was read. The line at fault is shown. */
+bool refused_listing(Desk *desk, TormukaiListing told);
+
 void end_reply(Desk *desk);
 TormukaiRefusal refusal_of(TormukaiAnswer answer);
 
@@ -98,8 +118,17 @@ void read_file(File *file);
 /* file.c: the file's words; 33 where it has none. */
 TormukaiRefusal open_sheet(const File *file, Sheet *sheet);
 
+/* text.c: reads the named file, as much of it as decides. False, and a line on standard error, where it can't be read. */
+bool read_text(Text *text);
+
+/* text.c: a line by its number from 0, which the text must have. */
+Line line_at(const Text *text, size_t number);
+
 /* result.c: writes the file whole or leaves it as it was. False, and a line on standard error, where it can't be written. */
 bool write_result(const char *name, const uint8_t *bytes, size_t length);
+
+/* sheets.c: writes the sheet's file to OUT, tells how large it is, and returns the exit status. Begins the reply. */
+int write_sheet(Desk *desk, const Sheet *sheet);
 
 /* questions.c: 'undetermined', 'granted', 'banned', 'both'. */
 const char *answer_name(uint32_t value);
@@ -119,6 +148,8 @@ int redundant(Desk *desk);
 int find(Desk *desk);
 int join(Desk *desk);
 int take(Desk *desk);
+int read_listing(Desk *desk);
+int list(Desk *desk);
 int show(Desk *desk);
 int draw(Desk *desk);
 

@@ -32,22 +32,24 @@ void print_help(void)
         print_form(stdout, verb);
         printf("      %s\n", verb->summary);
     }
-    fputs("\nFILE, FIRST and SECOND are sheets' files; '-' is standard input. OUT is the file to write.\n"
+    fputs("\nFILE, FIRST and SECOND are sheets' files, LISTING is a text's; '-' is standard input. OUT is the file to write.\n"
           "OFFICE, PERSON, CATEGORY, DEED and FOLIO are numbers from 0 to 4294967295.\n"
           "RULE is 1 or grant-first, 2 or deny-first, 3 or first-applicable.\n"
           "\nOptions:\n"
           "  --json     before the verb: print one JSON object instead of text\n"
           "  --help     print this, or after a verb what it tells, with an example\n"
           "  --version  print the version\n"
-          "\nExit status: 0 an answer, 1 a refusal, 2 bad usage, 3 the output can't be written.\n"
+          "\nExit status: 0 an answer, 1 a refusal, 2 bad usage or no listing to read, 3 the output can't be written.\n"
           "\nRead on: man counter, docs/COUNTER.md (each verb and its JSON), docs/RULES.md (the rules, the refusals).\n",
           stdout);
 }
 
-/* Every verb reads a sheet, so the sheet's own refusals go without saying in the table. */
+/* Every verb but one reads a sheet, so the sheet's own refusals go without saying in the table. */
 static void print_refusals(const Verb *verb)
 {
-    fputs("\nRefusals:\n  33, 1 to 17: a file is no sheet; the sentence says why\n", stdout);
+    fputs("\nRefusals:\n", stdout);
+    if (verb->arguments[0] != LISTING)
+        fputs("  33, 1 to 17: a file is no sheet; the sentence says why\n", stdout);
     for (size_t i = 0; i < REFUSALS && verb->refusals[i] != 0; i++)
         printf("  %" PRIu32 ": %s\n", verb->refusals[i], tormukai_refusal_text(verb->refusals[i]));
 }

@@ -27,7 +27,7 @@ static int ask(Desk *desk)
         read_file(&desk->files[i]);
     TormukaiRefusal unopened = open_one_sheet(desk);
     int status = unopened.number != 0 && refused(desk, unopened) ? REFUSED : desk->verb->serve(desk);
-    if (status != UNWRITTEN)
+    if (status == ANSWERED || status == REFUSED)
         end_reply(desk);
     return status;
 }

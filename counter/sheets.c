@@ -94,7 +94,7 @@ int find(Desk *desk)
     return ANSWERED;
 }
 
-static void tell_written(Desk *desk, uint32_t words)
+static void tell_written(Desk *desk, size_t words)
 {
     note_number(&desk->out, "bytes", 4 * words);
     say(&desk->out, "\nwritten: ");
@@ -126,24 +126,29 @@ int join(Desk *desk)
     return ANSWERED;
 }
 
-int take(Desk *desk)
+int write_sheet(Desk *desk, const Sheet *sheet)
 {
-    static Sheet taken;
     Writer *out = &desk->out;
-    TormukaiAnswer told = tormukai_take_out(desk->sheet.words, desk->sheet.length, desk->asked.office, taken.words,
-                                            TORMUKAI_SHEET_WORDS);
-    TormukaiRefusal refusal = refusal_of(told);
-    taken.length = told.count;
-    if (refusal.number == 0)
-        refusal = tormukai_file_of_words(taken.words, taken.length, bytes, sizeof bytes);
-    if (refusal.number == 0 && !write_result(desk->asked.result, bytes, 4 * told.count))
+    TormukaiRefusal refusal = tormukai_file_of_words(sheet->words, sheet->length, bytes, sizeof bytes);
+    if (refusal.number == 0 && !write_result(desk->asked.result, bytes, 4 * sheet->length))
         return UNWRITTEN;
     if (refused(desk, refusal))
         return REFUSED;
     say(out, "nodes ");
-    tell_number(out, "nodes", node_count(&taken));
+    tell_number(out, "nodes", node_count(sheet));
     say(out, "\nedges ");
-    tell_number(out, "edges", edge_count(&taken));
-    tell_written(desk, told.count);
+    tell_number(out, "edges", edge_count(sheet));
+    tell_written(desk, sheet->length);
     return ANSWERED;
+}
+
+int take(Desk *desk)
+{
+    static Sheet taken;
+    TormukaiAnswer told = tormukai_take_out(desk->sheet.words, desk->sheet.length, desk->asked.office, taken.words,
+                                            TORMUKAI_SHEET_WORDS);
+    taken.length = told.count;
+    if (told.number != 0 && refused(desk, refusal_of(told)))
+        return REFUSED;
+    return write_sheet(desk, &taken);
 }

@@ -1,7 +1,7 @@
 /* The verbs. A new one costs a row here and its function.
  *
- * A row: name, arguments, how many of the last may be left out, function, refusals beside 33 and 1 to 17; then the help: a line
- * of `counter --help`, what the verb tells, an example's arguments and what it prints. desk.h has the struct. */
+ * A row: name, arguments, how many of the last may be left out, function, refusals beside a sheet's 33 and 1 to 17; then the
+ * help: a line of `counter --help`, what the verb tells, an example's arguments and what it prints. desk.h has the struct. */
 #include "desk.h"
 
 const Verb verbs[] = {
@@ -84,6 +84,27 @@ const Verb verbs[] = {
      "After a refusal it is as it was.\n",
      "joint.sheet 2 out.sheet",
      "nodes 4\nedges 3\nwritten: out.sheet\n"},
+    {"read", {LISTING, RESULT}, 0, read_listing, {40, 41, 42, 14, 43, 4},
+     "write the sheet of a typed listing",
+     "Reads a listing, a text with one row a line in any order, and writes its sheet of one office to OUT. The nine lines:\n"
+     "  person 11   category 21   deed 31/1   folio 41\n"
+     "  in 11 21   within 21 22   grant 22 31/1   ban 21 31/2   applies 31/1 41\n"
+     "Spaces are single, and a line feed ends each line. A line that is refused is shown, with its number from 1. OUT is\n"
+     "replaced only when the whole result is written. After a refusal it is as it was.\n",
+     "a.listing out.sheet",
+     "nodes 8\nedges 7\nwritten: out.sheet\n"},
+    {"list", {SHEET}, 0, list, {28},
+     "a sheet of one office as a listing",
+     "Prints the sheet as a listing, the nodes and then the edges, in the sheet's order. Reading it gives the same sheet.\n"
+     "Of a joint sheet take an office out first.\n",
+     "b.sheet",
+     "person 11\n"
+     "category 21\n"
+     "deed 31/2\n"
+     "folio 42\n"
+     "in 11 21\n"
+     "grant 21 31/2\n"
+     "applies 31/2 42\n"},
     {"show", {SHEET}, 0, show, {0},
      "every row of a sheet, in words",
      "Tells the sheet's header, and every node and edge with its row and its offices.\n",

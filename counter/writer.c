@@ -52,13 +52,13 @@ void say(Writer *out, const char *words)
         fputs(words, stdout);
 }
 
-void say_number(Writer *out, uint32_t number)
+void say_number(Writer *out, uint64_t number)
 {
     if (!as_json(out))
-        printf("%" PRIu32, number);
+        printf("%" PRIu64, number);
 }
 
-void tell_number(Writer *out, const char *name, uint32_t number)
+void tell_number(Writer *out, const char *name, uint64_t number)
 {
     note_number(out, name, number);
     say_number(out, number);
@@ -79,11 +79,39 @@ void tell_truth(Writer *out, const char *name, bool truth)
     say(out, truth ? "yes" : "no");
 }
 
-void note_number(Writer *out, const char *name, uint32_t number)
+void note_number(Writer *out, const char *name, uint64_t number)
 {
     if (as_json(out)) {
         begin_value(out, name);
-        printf("%" PRIu32, number);
+        printf("%" PRIu64, number);
+    }
+}
+
+/* In a JSON string the backslash is doubled. */
+static void put_bytes(const unsigned char *bytes, size_t length, const char *backslash)
+{
+    for (size_t i = 0; i < length; i++) {
+        if (bytes[i] < ' ' || bytes[i] > '~' || bytes[i] == '"' || bytes[i] == '\\')
+            printf("%sx%02x", backslash, bytes[i]);
+        else
+            putchar(bytes[i]);
+    }
+}
+
+void tell_bytes(Writer *out, const char *name, const void *bytes, size_t length)
+{
+    note_bytes(out, name, bytes, length);
+    if (!as_json(out))
+        put_bytes(bytes, length, "\\");
+}
+
+void note_bytes(Writer *out, const char *name, const void *bytes, size_t length)
+{
+    if (as_json(out)) {
+        begin_value(out, name);
+        putchar('"');
+        put_bytes(bytes, length, "\\\\");
+        putchar('"');
     }
 }
 

@@ -6,6 +6,7 @@
 #define WRITER_H
 
 #include <stdbool.h>
+#include <stddef.h>
 #include <stdint.h>
 
 typedef struct Writer {
@@ -16,16 +17,21 @@ typedef struct Writer {
 
 /* In text only: what stands between the facts. */
 void say(Writer *out, const char *words);
-void say_number(Writer *out, uint32_t number);
+void say_number(Writer *out, uint64_t number);
 
 /* In both: a fact. Within a list the name is NULL. A truth is 'yes' or 'no' in text. */
-void tell_number(Writer *out, const char *name, uint32_t number);
+void tell_number(Writer *out, const char *name, uint64_t number);
 void tell_word(Writer *out, const char *name, const char *word);
 void tell_truth(Writer *out, const char *name, bool truth);
 
+/* In both: bytes that may be anything. What is no printable ASCII character, a quote and a backslash stand as \x and two
+ * hexadecimal digits, so that nothing is hidden and nothing reaches a terminal but letters. */
+void tell_bytes(Writer *out, const char *name, const void *bytes, size_t length);
+
 /* In JSON only: a fact that the text has in other words, or not at all. */
-void note_number(Writer *out, const char *name, uint32_t number);
+void note_number(Writer *out, const char *name, uint64_t number);
 void note_word(Writer *out, const char *name, const char *word);
+void note_bytes(Writer *out, const char *name, const void *bytes, size_t length);
 void note_null(Writer *out, const char *name);
 void note_line_end(Writer *out);
 

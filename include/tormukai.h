@@ -4,13 +4,15 @@
  * result and what it writes are what its statement in docs/STATEMENTS.md says. The exception is `tormukai_refusal_text`, a
  * table in C. The library is x86-64 code.
  *
- * A FILE is a sheet's bytes as they stand on disk, each word four bytes, low byte first. A SHEET is its words. Any bytes and
- * any words may be passed, and any numbers: what is wrong with them is a refusal.
+ * A FILE is a sheet's bytes as they stand on disk, each word four bytes, low byte first. A SHEET is its words. A LISTING is a
+ * sheet of one office as a text that people can type, one row a line. Any bytes and any words may be passed, and any numbers:
+ * what is wrong with them is a refusal.
  *
- * A REFUSAL has the number of the table of refusals (docs/RULES.md) and a place: for 33, 1 to 17 and 28 the sheet (1 where
- * there is one sheet), and for 6 to 17 also the row's index in its table, from 0. Every other part of a refused result is 0,
- * and nothing is written. Where several numbers apply, it is the first in the table's order, and each comment below names them
- * in it.
+ * A REFUSAL has the number of the table of refusals (docs/RULES.md) and a place. What is wrong with a sheet or its file, which
+ * is 33, 1 to 17 and 28, has the sheet (1 where there is one sheet), and for 6 to 17 also the row's index in its table, from 0.
+ * What is wrong with a line of a listing, which is 40 to 43 and there also 14, has sheet 0 and as row the line, counted from 0.
+ * Every other part of a refused result is 0, and nothing is written. Where several numbers apply, it is the first in the
+ * table's order, and each comment below names them in it.
  *
  * A SUCCESS has number, sheet and row 0. It writes the words (or bytes) of its result from the output's start, and leaves
  * the rest of the output as it was. An empty list is a success of count 0.
@@ -30,11 +32,14 @@ extern "C" {
 #endif
 
 /* The library's version. */
-#define TORMUKAI_VERSION "0.2.0"
+#define TORMUKAI_VERSION "0.3.0"
 
 /* The longest sheet, in words and in bytes of its file: 6 + 4 * 512 + 4 * 2048 words. */
 #define TORMUKAI_SHEET_WORDS 10246
 #define TORMUKAI_FILE_BYTES 40984
+
+/* No listing that is written is longer, in bytes: 512 lines of 27 bytes and 2048 of 41. One to be read may have any length. */
+#define TORMUKAI_LISTING_BYTES 97792
 
 /* Outputs that no result outgrows: a list of persons or of folios, a list of edge rows, and a witness of 512 nodes of two
  * words, in words and in bytes. With them 25 does not occur. */
@@ -78,7 +83,12 @@ extern "C" {
 #define TORMUKAI_GRANT 0
 #define TORMUKAI_BAN 1
 
-/* Refusal numbers, in the order in which they are tried. */
+/* Refusal numbers, in the order in which they are tried. Of a listing each line is tried by itself, and 43, 4 and 25 come after
+ * the last line. */
+#define TORMUKAI_REFUSED_LISTING_LINE 40
+#define TORMUKAI_REFUSED_LISTING_NUMBER 41
+#define TORMUKAI_REFUSED_LISTING_REPEATED 42
+#define TORMUKAI_REFUSED_LISTING_NO_NODE 43
 #define TORMUKAI_REFUSED_FILE_LENGTH 33
 #define TORMUKAI_REFUSED_UNDER_SIX_WORDS 1
 #define TORMUKAI_REFUSED_FORM 2
@@ -139,6 +149,15 @@ typedef struct TormukaiJoined {
     uint32_t sharednodes;
     uint32_t sharededges;
 } TormukaiJoined;
+
+/* A refusal's number and place, or number 0 with the length of what was written: the words of a sheet or the bytes of a
+ * listing. The row is a line's number where a listing is read, and a text can have more lines than 32 bits count. */
+typedef struct TormukaiListing {
+    uint32_t number;
+    uint32_t sheet;
+    size_t row;
+    size_t count;
+} TormukaiListing;
 
 /* The sentence of the table of refusals for a number, as "unknown person" for 21; for a number that is not in the table a
  * sentence that says so. The text is English, has no line end, and lives as long as the program. Refuses nothing.
@@ -294,6 +313,34 @@ TormukaiAnswer tormukai_look_up(const uint32_t *first, size_t first_length, cons
  * Stack: at most 512 bytes. */
 TormukaiRefusal tormukai_look_up_refusal(const uint32_t *first, size_t first_length, const uint32_t *second,
                                          size_t second_length, uint32_t type, uint32_t number, uint32_t variant);
+
+/* ---- Listings ---- */
+
+/* The sheet of a listing. A line is one of these nine, with single spaces, and ends with a line feed:
+ *   person 11   category 21   deed 31/1   folio 41
+ *   in 11 21   within 21 22   grant 22 31/1   ban 21 31/2   applies 31/1 41
+ * Numbers are decimal, and a deed has its variant after a slash. Lines may come in any order, an edge before its ends too. A
+ * carriage return, a tab, a comment, an empty line or a space too many makes a line that is none of the nine. A text of no
+ * bytes is the listing of the sheet without rows. The text is bytes and needs no zero at its end.
+ * Answers: count the words written. Writes: a sheet of form 1 and one office, its rows in order. It passes tormukai_check.
+ * Refuses with, line by line: 40 (none of the nine, or no line feed at its end), 41 (a number that is 0, has a leading zero or
+ * is above 4,294,967,295; a variant may be 0), 42 (the row stands on an earlier line too), 14 (a category within itself). The
+ * first line with a fault decides, and within it the first number in this order. After the last line: 43, at the first edge
+ * line whose end has no node line; 4 (more than 512 nodes or 2,048 edges), 25. Sheet is 0; row is the line, from 0, and for
+ * 4 and 25 it is 0 and no line. With an output of TORMUKAI_SHEET_WORDS words 25 does not occur.
+ * Time: up to 2,560 lines, which is all that a sheet can have, it grows as sorting does. A text with more lines is refused in
+ * the end, but its repeated rows are looked for line against line: ten times the lines take a hundred times as long. A caller
+ * who reads from strangers should bound the text's lines.
+ * Stack: at most 64,000 bytes. */
+TormukaiListing tormukai_read_listing(const uint8_t *text, size_t text_length, uint32_t *out, size_t out_length);
+
+/* The listing of a sheet of one office: a line for each node row, then a line for each edge row, in the sheet's order. Reading
+ * it gives the same sheet, word for word.
+ * Answers: count the bytes written. Writes: the text, every line with its line feed, and no zero at the end.
+ * Refuses with: 1 to 17, 28 (at sheet 1: the sheet has two offices; take one out first), 25 (out_length is under the text's
+ * bytes; with TORMUKAI_LISTING_BYTES it does not occur).
+ * Stack: at most 640 bytes. */
+TormukaiListing tormukai_write_listing(const uint32_t *sheet, size_t sheet_length, uint8_t *out, size_t out_length);
 
 #ifdef __cplusplus
 }

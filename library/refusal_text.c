@@ -28,12 +28,16 @@ static const char *const sentences[] = {
     [25] = "output shorter than the result",
     [26] = "no such path, triple or pair",
     [27] = "rule number",
-    [28] = "joining a sheet whose office count isn't 1",
+    [28] = "joining or listing a sheet whose office count isn't 1",
     [29] = "union above 512 nodes",
     [30] = "union above 2,048 edges",
     [31] = "question 9 with equal deeds",
     [32] = "identity in neither sheet",
     [33] = "bytes: length not a multiple of 4, or above 40,984",
+    [40] = "not one of the nine lines, or no line feed at its end",
+    [41] = "a number that is 0, has a leading zero or is above 4,294,967,295",
+    [42] = "a repeated row",
+    [43] = "an edge whose end has no node line",
 };
 
 const char *tormukai_refusal_text(uint32_t number)

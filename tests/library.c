@@ -63,6 +63,12 @@ static void say_joined(const char *name, TormukaiJoined j, size_t shown)
     say_words(shown);
 }
 
+static void say_listing(const char *name, TormukaiListing l, size_t shown)
+{
+    printf("%s: %" PRIu32 " %" PRIu32 " %zu %zu;", name, l.number, l.sheet, l.row, l.count);
+    say_words(shown);
+}
+
 /* The machine is x86-64, so a sheet's words in memory are the bytes of its file. */
 static const uint8_t *bytes(const uint32_t *words)
 {
@@ -161,6 +167,48 @@ static void two_sheets(void)
     say_refusal("look_up_refusal, a person", tormukai_look_up_refusal(second, b, first, n, TORMUKAI_PERSON, 41, 0));
 }
 
+/* The listing of the second sheet, from its end to its start: 80 bytes. */
+static const char typed[] = "applies 31/2 42\ngrant 21 31/2\nin 11 21\nfolio 42\ndeed 31/2\ncategory 21\nperson 11\n";
+
+static TormukaiListing read_text(const char *text, size_t length, size_t room)
+{
+    return tormukai_read_listing((const uint8_t *)text, length, out, room);
+}
+
+static TormukaiListing read_line(const char *text)
+{
+    return read_text(text, strlen(text), 0);
+}
+
+static void listings(void)
+{
+    const size_t b = LENGTH(second);
+    const size_t length = sizeof typed - 1;
+    say_listing("read_listing", read_text(typed, length, b), b + 1);
+    say_listing("read_listing, no bytes", read_text(typed, 0, 6), 7);
+    say_listing("read_listing, no line feed", read_text(typed, length - 1, b), 1);
+    say_listing("read_listing, a word short", read_text(typed, length, b - 1), 1);
+    say_listing("read_listing, no line", read_line("person 11\nperson 0x\n"), 1);
+    say_listing("read_listing, no number", read_line("person 11\nperson 0\nx\n"), 1);
+    say_listing("read_listing, a row twice", read_line("person 11\nperson 12\nperson 11\n"), 1);
+    say_listing("read_listing, within itself", read_line("category 21\nwithin 21 21\n"), 1);
+    say_listing("read_listing, no node", read_line("person 11\nin 11 21\n"), 1);
+    say_listing("write_listing", tormukai_write_listing(second, b, out_bytes, 80), 21);
+    say_listing("write_listing, a byte short", tormukai_write_listing(second, b, out_bytes, 79), 1);
+    say_listing("write_listing, two offices", tormukai_write_listing(joint, 70, out_bytes, 0), 1);
+    say_listing("write_listing, damaged", tormukai_write_listing(damaged, n, out_bytes, 0), 1);
+}
+
+/* One line more than a sheet can have of nodes. */
+static void large_listing(void)
+{
+    static char text[512 * 12];
+    size_t length = 0;
+    for (int i = 1; i <= 513; i++)
+        length += (size_t)snprintf(text + length, sizeof text - length, "folio %d\n", i);
+    say_listing("read_listing, 513 nodes", read_text(text, length, LENGTH(out)), 1);
+}
+
 /* The damaged sheet is refused by each, before an output that is too short or a number that is not there. */
 static void damages(void)
 {
@@ -184,7 +232,7 @@ static void damages(void)
 
 static void texts(void)
 {
-    for (uint32_t number = 0; number <= 35; number++)
+    for (uint32_t number = 0; number <= 45; number++)
         printf("%" PRIu32 " %s\n", number, tormukai_refusal_text(number));
     printf("%" PRIu32 " %s\n", (uint32_t)4294967295, tormukai_refusal_text(4294967295));
 }
@@ -193,6 +241,10 @@ static void texts(void)
 
 static void constants(void)
 {
+    SAY_CONSTANT(LISTING_LINE);
+    SAY_CONSTANT(LISTING_NUMBER);
+    SAY_CONSTANT(LISTING_REPEATED);
+    SAY_CONSTANT(LISTING_NO_NODE);
     SAY_CONSTANT(FILE_LENGTH);
     SAY_CONSTANT(UNDER_SIX_WORDS);
     SAY_CONSTANT(FORM);
@@ -239,6 +291,8 @@ int main(void)
     questions_of_a_sheet();
     lists();
     two_sheets();
+    listings();
+    large_listing();
     damages();
     texts();
     constants();

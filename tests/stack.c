@@ -1,7 +1,7 @@
 /* How much stack an entry of the header takes: stack NAME BYTES; without words it prints the names.
  * The entry is called on a stack of its own of just so many bytes, painted before, with a page below it that may not be touched:
- * an entry that needs more ends the program by a fault. It is called on full sheets and on damaged ones, for what there is
- * and for what there is not. Printed is the most that any call changed of the paint, the call itself included, then how many
+ * an entry that needs more ends the program by a fault. It is called on full sheets and on damaged ones, on their listings
+ * and on wrong ones, for what there is and for what there is not. Printed is the most that any call changed of the paint, the call itself included, then how many
  * calls were answered and how many refused. */
 #define _DEFAULT_SOURCE /* MAP_ANONYMOUS */
 #include "tormukai.h"
@@ -168,6 +168,63 @@ static void make_sheets(void)
     }
 }
 
+/* ---- Listings ---- */
+
+typedef struct Listing {
+    uint8_t bytes[TORMUKAI_LISTING_BYTES + 64]; /* and a line or two more */
+    size_t length;
+} Listing;
+
+/* One for each sheet, by its place: the sheet's own, and of a sheet that has none that of sister ship A or of the first full
+ * sheet with something added. */
+static Listing listings[SHEETS];
+
+/* Put before a listing, or behind it: not a line, no number, a line cut short, a row twice, a category within itself, an end
+ * without a node, the longest lines. A full sheet's listing gets a line too many by it; reading that takes long, so there are
+ * few. */
+static const struct {
+    const char *before;
+    const char *behind;
+    size_t to;
+} additions[] = {
+    {"x\n", "", SISTER_A},
+    {"\n", "", SISTER_A},
+    {"person 0\n", "", SISTER_A},
+    {"", "applies 31/1 42", SISTER_A},
+    {"folio 42\n", "", SISTER_A},
+    {"", "person 1\n", 0},
+    {"within 4294967295 4294967295\n", "", SISTER_A},
+    {"", "within 21 21\n", SISTER_A},
+    {"in 4294967295 4294967295\n", "", SISTER_A},
+    {"", "applies 4294967295/4294967295 4294967295\n", SISTER_A},
+    {"person 4294967295\n", "", 0},
+    {"", "deed 4294967295/4294967295\n", SISTER_A},
+    {"", "grant 4294967295 4294967295/00000000000000000000\n", SISTER_A},
+};
+
+static void put(Listing *listing, const void *bytes, size_t length)
+{
+    memcpy(listing->bytes + listing->length, bytes, length);
+    listing->length += length;
+}
+
+static void make_listings(void)
+{
+    for (size_t i = 0; i < SHEETS; i++)
+        listings[i].length =
+            tormukai_write_listing(sheets[i].words, sheets[i].bytes / 4, listings[i].bytes, TORMUKAI_LISTING_BYTES).count;
+    for (size_t i = 0; i < SHEETS; i++) {
+        Listing *const listing = &listings[i];
+        const size_t which = i % LENGTH(additions);
+        const Listing *const right = &listings[additions[which].to];
+        if (listing->length != 0)
+            continue;
+        put(listing, additions[which].before, strlen(additions[which].before));
+        put(listing, right->bytes, right->length);
+        put(listing, additions[which].behind, strlen(additions[which].behind));
+    }
+}
+
 /* ---- Questions ---- */
 
 /* What is asked of a sheet: numbers of nodes that stand in it, or not. */
@@ -204,6 +261,8 @@ static volatile uint32_t got;
 #define RIGHT asked->person, asked->deed, asked->folio
 #define BYTES_OUT (uint8_t *)out, asked->room
 #define WORDS_OUT out, asked->room
+#define LISTING_OF(sheet) listings[(sheet) - sheets].bytes, listings[(sheet) - sheets].length
+#define LISTING_OUT (uint8_t *)out, 2 * asked->room
 
 #define ENTRY(name, ...) \
     static void call_##name(void) { got = tormukai_##name(__VA_ARGS__).number; }
@@ -231,6 +290,9 @@ ENTRY(take_out, WORDS_OF(first), asked->office, WORDS_OUT)
 ENTRY(look_up, WORDS_OF(first), WORDS_OF(second), 1, asked->person, 0)
 ENTRY(look_up_refusal, WORDS_OF(first), WORDS_OF(second), 1, asked->person, 0)
 
+ENTRY(read_listing, LISTING_OF(first), WORDS_OUT)
+ENTRY(write_listing, WORDS_OF(first), LISTING_OUT)
+
 static void call_refusal_text(void)
 {
     const char *const text = tormukai_refusal_text(asked->person);
@@ -255,7 +317,7 @@ static const struct {
     LISTED(check_file), LISTED(join_files), LISTED(check), LISTED(sheet_answer), LISTED(sheet_joint_answer),
     LISTED(sheet_witness), LISTED(is_path), LISTED(persons_in_category), LISTED(persons_with_grant),
     LISTED(folios_out_of_reach), LISTED(least_triple), LISTED(least_holder), LISTED(redundant_edges), LISTED(join),
-    LISTED(take_out), LISTED(look_up), LISTED(look_up_refusal), LISTED(known),
+    LISTED(take_out), LISTED(look_up), LISTED(look_up_refusal), LISTED(read_listing), LISTED(write_listing), LISTED(known),
 };
 
 /* ---- The painted stack ---- */
@@ -341,6 +403,7 @@ int main(int count, char **words)
             printf("%s\n", entries[i].name);
         else if (count == 3 && strcmp(words[1], entries[i].name) == 0) {
             make_sheets();
+            make_listings();
             make_path();
             make_stack((size_t)strtoul(words[2], NULL, 10));
             call_all(entries[i].call);

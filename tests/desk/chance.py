@@ -6,7 +6,7 @@ from functools import partial
 
 from . import model
 from .drawn import drawn
-from .drive import ask_json, ask_text, outcome_of
+from .drive import ask, ask_json, ask_text, outcome_of
 from .expect import TYPES, Refused
 from .outputs import writes
 from .sheets import APPLIES, BAN, CATEGORY, DEED, FOLIO, GRANT, MEMBER, PERSON, WITHIN, Edge, Node, Sheet
@@ -136,6 +136,33 @@ def two_sheets(room, seed, hurt):
         yield rng.choice((ask_text, ask_json))(f'sheets {seed}', 'find', [*names, TYPES[type_], said], got)
 
 
+def some_text(rng, text):
+    """A listing in another order, and mostly with a fault or two: lines changed, doubled or left out, bytes put in."""
+    lines = text.splitlines(keepends=True)
+    rng.shuffle(lines)
+    for _ in range(rng.choice((0, 1, 1, 2)) if lines else 0):
+        at, line = rng.randrange(len(lines)), rng.choice(lines)
+        place = rng.randrange(len(line) + 1)
+        odd = rng.choice((b' ', b'0', b'9', b'/', b'\n', b'\r', b'\t', b'/0', b'4294967296', bytes([rng.randrange(256)])))
+        lines[at:at + 1] = rng.choice(([], [lines[at], line], [line[:place] + odd + line[place:]],
+                                       [line[:place] + line[place + 1:]], [b'within 1 1\n', lines[at]],
+                                       [line.replace(b'1', b'0')], [lines[at]] * 2))
+    return b''.join(lines)
+
+
+def one_listing(room, seed):
+    """A sheet as a listing, and listings that are almost right as sheets."""
+    rng = random.Random(seed)
+    of = some_sheet(rng, 1 if rng.random() < 0.8 else 2)
+    yield from ask(f'listing {seed}', 'list', [room.file(of.file())], outcome_of(model.listing, of))
+    right = model.lines_of(of).encode()
+    for _ in range(3):
+        name = room.file(some_text(rng, right))
+        with open(name, 'rb') as file:
+            got = outcome_of(model.read_in, file.read(), name)
+        yield from writes(room, f'listing {seed}', 'read', [name], *((got, None) if isinstance(got, Refused) else got))
+
+
 def both_read(files):
     return [model.read(file, place) for place, file in enumerate(files, 1)]
 
@@ -144,3 +171,4 @@ def tests(room):
     for i in range(SHEETS):
         yield partial(one_sheet, room, f'{SEED}.{i}', i % 5 == 4)
         yield partial(two_sheets, room, f'{SEED}.{i}', i % 4 == 3)
+        yield partial(one_listing, room, f'{SEED}.{i}')

@@ -1,11 +1,18 @@
 """What the command prints: the sentences of the table of refusals, and the text that says the same as a JSON object."""
 
+import os
+import string
+
 TYPES = {1: 'person', 2: 'category', 3: 'deed', 4: 'folio'}
 KINDS = {1: 'in', 2: 'within', 3: 'grants', 4: 'bans', 5: 'applies'}
 ANSWERS = ['undetermined', 'granted', 'banned', 'both']
 
-# Document 01's table, in its order.
+# The table of refusals, in its order.
 SENTENCES = {
+    40: 'not one of the nine lines, or no line feed at its end',
+    41: 'a number that is 0, has a leading zero or is above 4,294,967,295',
+    42: 'a repeated row',
+    43: 'an edge whose end has no node line',
     33: 'bytes: length not a multiple of 4, or above 40,984',
     1: 'under 6 words',
     2: 'form not 1',
@@ -32,7 +39,7 @@ SENTENCES = {
     23: 'unknown folio',
     31: 'question 9 with equal deeds',
     32: 'identity in neither sheet',
-    28: "joining a sheet whose office count isn't 1",
+    28: "joining or listing a sheet whose office count isn't 1",
     29: 'union above 512 nodes',
     30: 'union above 2,048 edges',
     26: 'no such path, triple or pair',
@@ -49,6 +56,34 @@ class Refused(Exception):
 
     def fields(self):
         return {'number': self.number, 'sheet': self.sheet, 'row': self.row, 'text': SENTENCES[self.number]}
+
+
+MOST_SHOWN = 60  # bytes of a line
+
+
+class RefusedLine(Refused):
+    """A refused line of a listing, which is shown: its row counts from 0, and its bytes have no line feed."""
+
+    def __init__(self, number, row, line, ended=True, file='-'):
+        super().__init__(number, 0, row)
+        self.line, self.ended, self.file = line, ended, file
+
+    def note(self):
+        if len(self.line) > MOST_SHOWN:
+            return f'its first {MOST_SHOWN} bytes'
+        return None if self.ended else 'no line feed'
+
+    def fields(self):
+        return {**super().fields(), 'file': escaped(os.fsencode(self.file)), 'line': self.row + 1,
+                'shown': escaped(self.line[:MOST_SHOWN]), 'note': self.note()}
+
+
+def escaped(data):
+    """Printable ASCII as it is, but for quotes and backslashes; every other byte by its number."""
+    return ''.join(chr(byte) if chr(byte) in PLAIN else f'\\x{byte:02x}' for byte in data)
+
+
+PLAIN = set(string.ascii_letters + string.digits + string.punctuation + ' ') - set('"\\')
 
 
 def answered(value):
@@ -94,6 +129,9 @@ def listed(lines):
 
 
 def refusal(of):
+    if 'line' in of:
+        note = f" ({of['note']})" if of['note'] else ''
+        return f"refused {of['number']} at {of['file']}:{of['line']}: {of['text']}: \"{of['shown']}\"{note}"
     place = f" at sheet {of['sheet']}" if of['sheet'] else ''
     row = f" row {of['row']}" if 6 <= of['number'] <= 17 else ''
     return f"refused {of['number']}{place}{row}: {of['text']}"
@@ -128,6 +166,8 @@ TEXT = {
     'find': lambda of: [f"{('first', 'second')[of['sheet'] - 1]} sheet, {node(of['node'])}"],
     'join': lambda of: [f"nodes {of['nodes']} shared {of['shared_nodes']}", f"edges {of['edges']} shared {of['shared_edges']}"],
     'take': lambda of: [f"nodes {of['nodes']}", f"edges {of['edges']}"],
+    'read': lambda of: [f"nodes {of['nodes']}", f"edges {of['edges']}"],
+    'list': lambda of: of['listing'].split('\n')[:-1],
     'show': shown,
 }
 
@@ -136,5 +176,5 @@ def text(of, out=None):
     """The lines that say what the object says; OUT is named where a verb writes one."""
     if of['refusal']:
         return refusal(of['refusal']) + '\n'
-    lines = TEXT[of['verb']](of) + ([f'written: {out}'] if of['verb'] in ('join', 'take') else [])
+    lines = TEXT[of['verb']](of) + ([f'written: {out}'] if of['verb'] in ('join', 'take', 'read') else [])
     return ''.join(line + '\n' for line in lines)

@@ -23,6 +23,7 @@ ONE_FILE = {
     'duties': ['1', '31', '31'],
     'redundant': ['1'],
     'take': ['1', 'out'],
+    'list': [],
     'show': [],
     'draw': ['1'],
 }

@@ -1,10 +1,12 @@
 """Every function of the library called from C, by tests/library.c; and linked as docs/COUNTER.md says, on x86-64."""
 import platform
 import re
+import struct
 from functools import partial
 
 from .drive import START, TOP, Finding, differs, held, run
 from .expect import SENTENCES
+from .model import lines_of
 from .sheets import A, B, JOINT
 
 ROOM = '4294967295'  # the word that stands where nothing was written
@@ -14,11 +16,15 @@ def words(of):
     return ' '.join(map(str, of.words()))
 
 
+def text_words(text):
+    """A text in an output that is shown as words; it fills whole words."""
+    return ' '.join(map(str, struct.unpack(f'<{len(text) // 4}I', text.encode())))
+
 
 def lines():
     """What tests/library.c prints. Of a result: number, sheet, row, value, count; what was written; the word after it.
     Where out is lent as bytes, it is shown as words: the machine is x86-64."""
-    yield 'version: 0.2.0'
+    yield 'version: 0.3.0'
     yield 'answer: 0 0 0 2 0; 4294967295'
     yield 'joint_answer: 0 0 0 2 1; 4294967295'
     yield 'witness: 0 0 0 0 40; 11 0 21 0 22 0 31 1 41 0 4294967295'
@@ -75,6 +81,20 @@ def lines():
     yield 'look_up, the second damaged: 6 2 3 0 0; 4294967295'
     yield 'look_up_refusal: 0 0 0'
     yield 'look_up_refusal, a person: 32 0 0'
+    yield f'read_listing: 0 0 0 34; {words(B)} {ROOM}'
+    yield f'read_listing, no bytes: 0 0 0 6; 1 1 0 0 6 6 {ROOM}'
+    yield 'read_listing, no line feed: 40 0 6 0; 4294967295'
+    yield 'read_listing, a word short: 25 0 0 0; 4294967295'
+    yield 'read_listing, no line: 40 0 1 0; 4294967295'
+    yield 'read_listing, no number: 41 0 1 0; 4294967295'
+    yield 'read_listing, a row twice: 42 0 2 0; 4294967295'
+    yield 'read_listing, within itself: 14 0 1 0; 4294967295'
+    yield 'read_listing, no node: 43 0 1 0; 4294967295'
+    yield f'write_listing: 0 0 0 80; {text_words(lines_of(B))} {ROOM}'
+    yield 'write_listing, a byte short: 25 0 0 0; 4294967295'
+    yield 'write_listing, two offices: 28 1 0 0; 4294967295'
+    yield 'write_listing, damaged: 6 1 3 0; 4294967295'
+    yield 'read_listing, 513 nodes: 4 0 0 0; 4294967295'
     yield 'check: 0 0 0'
     yield 'check, damaged: 6 1 3'
     for name in ('sheet_answer', 'sheet_joint_answer', 'sheet_witness', 'is_path', 'persons_in_category', 'persons_with_grant',
@@ -82,14 +102,15 @@ def lines():
         yield f'{name}, damaged: 6 1 3 0 0; 4294967295'
     yield 'join, damaged: 6 2 3 0 0 0 0 0; 4294967295'
     yield 'look_up_refusal, damaged: 6 2 3'
-    for number in [*range(36), 4294967295]:
+    for number in [*range(46), 4294967295]:
         yield f"{number} {SENTENCES.get(number, 'not in the table of refusals')}"
     for name, number in CONSTANTS:
         yield f'{name} {number}'
 
 
 # Every refusal number has a name, and stands in the header in the table's order.
-NAMES = ('FILE_LENGTH', 'UNDER_SIX_WORDS', 'FORM', 'OFFICE_COUNT', 'COUNTS', 'OFFSET_OR_LENGTH', 'NODE_TYPE',
+NAMES = ('LISTING_LINE', 'LISTING_NUMBER', 'LISTING_REPEATED', 'LISTING_NO_NODE', 'FILE_LENGTH',
+         'UNDER_SIX_WORDS', 'FORM', 'OFFICE_COUNT', 'COUNTS', 'OFFSET_OR_LENGTH', 'NODE_TYPE',
          'NUMBER_OR_VARIANT', 'NODE_OFFICES', 'NODE_REPEATED', 'NODE_ORDER', 'EDGE_KIND', 'EDGE_END', 'END_TYPES',
          'WITHIN_ITSELF', 'EDGE_OFFICES', 'EDGE_REPEATED', 'EDGE_ORDER', 'OFFICE', 'RULE', 'UNKNOWN_PERSON', 'UNKNOWN_DEED',
          'UNKNOWN_CATEGORY', 'UNKNOWN_FOLIO', 'EQUAL_DEEDS', 'IN_NEITHER_SHEET', 'NOT_ONE_OFFICE', 'UNION_NODES',

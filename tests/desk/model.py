@@ -3,9 +3,10 @@
 Nothing here is fast or clever, and nothing is taken from the crates: paths are listed one by one, so that only small sheets can
 be asked about them.
 """
+import re
 import struct
 
-from .expect import KINDS, TYPES, Refused, answered
+from .expect import KINDS, TYPES, Refused, RefusedLine, answered
 from .sheets import APPLIES, BAN, CATEGORY, DEED, FOLIO, GRANT, MEMBER, MOST_BYTES, MOST_EDGES, MOST_NODES, PERSON, WITHIN
 from .sheets import Edge, Node, Sheet
 
@@ -265,7 +266,7 @@ def longer_way(within, path, end):
         longer_way(within, path + [following], end) for following in onward if following != end)
 
 
-# ---- Two sheets, one office of a sheet, and the rows
+# ---- Two sheets, and one office of a sheet
 
 def find(first, second, type_, number, variant):
     for place, sheet in (1, first), (2, second):
@@ -316,6 +317,86 @@ def take(sheet, office):
                      {key: 1 for key, marks in relations(sheet).items() if marks & mark(office)})
     return {'nodes': len(result.nodes), 'edges': len(result.edges), 'bytes': len(result.file())}, result
 
+
+# ---- Listings
+
+NODE_LINES = {b'person': PERSON, b'category': CATEGORY, b'deed': DEED, b'folio': FOLIO}
+EDGE_LINES = {b'in': MEMBER, b'within': WITHIN, b'grant': GRANT, b'ban': BAN, b'applies': APPLIES}
+
+
+def typed_row(line):
+    """What a line says: its word, and for each node that it names the type and the digits of its numbers. None where the line
+    is none of the nine."""
+    word, *names = line.split(b' ')
+    types = (NODE_LINES[word],) if word in NODE_LINES else ENDS.get(EDGE_LINES.get(word), ())
+    forms = [rb'([0-9]+)/([0-9]+)' if type_ == DEED else rb'([0-9]+)' for type_ in types]
+    matched = [re.fullmatch(form, name) for form, name in zip(forms, names)]
+    if not types or len(names) != len(types) or not all(matched):
+        return None
+    return word, [(type_, *found.groups()) for type_, found in zip(types, matched)]
+
+
+def no_number(digits, least):
+    return len(digits) > 1 and digits.startswith(b'0') or len(digits) > 10 or not least <= int(digits) < 1 << 32
+
+
+def line_fault(line, ended, before):
+    """The line's refusal, or its row: the word and the identities."""
+    row = typed_row(line)
+    if row is None or not ended:
+        return 40, None
+    word, names = row
+    if any(no_number(number, 1) or any(no_number(each, 0) for each in variant) for _, number, *variant in names):
+        return 41, None
+    row = word, tuple((type_, int(number), *(int(each) for each in variant or [b'0'])) for type_, number, *variant in names)
+    if row in before:
+        return 42, None
+    return (14 if word == b'within' and row[1][0] == row[1][1] else 0), row
+
+
+def read_listing(text, file='-'):
+    """The sheet of a listing, or the refusal."""
+    *whole, rest = text.split(b'\n')
+    rows, before = [], set()
+    for at, (line, ended) in enumerate([(line, True) for line in whole] + ([(rest, False)] if rest else [])):
+        number, row = line_fault(line, ended, before)
+        if number:
+            raise RefusedLine(number, at, line, ended, file)
+        rows.append(row)
+        before.add(row)
+    nodes = {names[0] for word, names in rows if word in NODE_LINES}
+    for at, (word, names) in enumerate(rows):
+        if word in EDGE_LINES and not set(names) <= nodes:
+            raise RefusedLine(43, at, whole[at], True, file)
+    edges = {(EDGE_LINES[word], *names): 1 for word, names in rows if word in EDGE_LINES}
+    if len(nodes) > MOST_NODES or len(edges) > MOST_EDGES:
+        raise Refused(4)
+    return rebuilt(1, {node: 1 for node in nodes}, edges)
+
+
+def read_in(text, file='-'):
+    """The reply and the sheet."""
+    result = read_listing(text, file)
+    return {'nodes': len(result.nodes), 'edges': len(result.edges), 'bytes': len(result.file())}, result
+
+
+def lines_of(sheet):
+    """The listing of a sheet of one office."""
+    def name(row):
+        type_, number, variant = sheet.nodes[row].identity
+        return f'{number}/{variant}' if type_ == DEED else str(number)
+    words = {kind: word.decode() for word, kind in EDGE_LINES.items()}
+    return ''.join([f'{TYPES[node.type]} {name(row)}\n' for row, node in enumerate(sheet.nodes)] +
+                   [f'{words[edge.kind]} {name(edge.start)} {name(edge.end)}\n' for edge in sheet.edges])
+
+
+def listing(sheet):
+    if sheet.offices != 1:
+        raise Refused(28, 1)
+    return {'listing': lines_of(sheet)}
+
+
+# ---- The rows
 
 def show(sheet):
     return {'form': 1, 'offices': sheet.offices, 'nodes': [node_object(sheet, row) for row in range(len(sheet.nodes))],

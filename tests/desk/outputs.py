@@ -7,16 +7,16 @@ from functools import partial
 
 from . import model
 from .drive import Finding, ask_json, ask_text, counter, differs, held, same, true
-from .expect import Refused
+from .expect import SENTENCES, Refused
 from .room import OLDER, contents
-from .sheets import A, B, DAMAGES, JOINT, crew, crowd
+from .sheets import A, B, DAMAGES, JOINT, crew, crowd, wordy
 
 UNWRITTEN = "counter: the output can't be written\n"
 SAID = b'nodes 8 shared 4\nedges 8 shared 2\nwritten: '
 
 
 def writes(room, label, verb, args, outcome, result):
-    """A join or a taking out, in text over an older OUT and in JSON into a new one; refused, the folder is as it was."""
+    """A verb that writes, in text over an older OUT and in JSON into a new one; refused, the folder is as it was."""
     args = [str(each) for each in args]
     folder = room.folder()
     older, new = folder / 'older.sheet', folder / 'new.sheet'
@@ -28,13 +28,15 @@ def writes(room, label, verb, args, outcome, result):
 
 
 class Place:
-    """A folder with A, B, the joint sheet and a damaged one, in which a verb is to write."""
+    """A folder with A, B, the joint sheet, a damaged one and two listings, in which a verb is to write."""
 
     def __init__(self, room):
         self.path = room.folder()
         self.lay('a', A.file())
         self.lay('b', B.file())
         self.lay('ab', JOINT.file())
+        self.lay('typed', model.lines_of(B).encode())
+        self.lay('typed wrong', b'person 11\nperson 11\n')
         self.lay('damaged', next(file for number, _, file in DAMAGES if number == 15))
         self.before = contents(self.path)
 
@@ -58,9 +60,9 @@ def joins(place, out, label, wanted=None, **how):
 
 
 def cannot(place, out, label, reason, **how):
-    """OUT can't be written, in text and in JSON, by either verb."""
+    """OUT can't be written, in text and in JSON, by each verb that writes it."""
     for option in [], ['--json']:
-        for args in ('join', 'a', 'b', out), ('take', 'ab', '2', out):
+        for args in ('join', 'a', 'b', out), ('take', 'ab', '2', out), ('read', 'typed', out):
             ran = place.counter(*option, *args, **how)
             yield held(f'{label}, {option} {args[0]}', ran, 3, '', f'counter: {out}: {reason}\n')
     yield place.left(label)
@@ -80,6 +82,9 @@ def files(room):
     place = Place(room)
     yield held('OUT is the only input', place.counter('take', 'ab', '2', 'ab'), 0, 'nodes 4\nedges 3\nwritten: ab\n')
     yield place.left('OUT is the only input', ab=B.file())
+    place = Place(room)
+    yield held('OUT is the listing', place.counter('read', 'typed', 'typed'), 0, 'nodes 4\nedges 3\nwritten: typed\n')
+    yield place.left('OUT is the listing', typed=B.file())
     place = Place(room)
     yield from joins(place, './-', 'OUT is named -', wanted={'-': JOINT.file()})
     place = Place(room)
@@ -110,7 +115,8 @@ def refused(room):
     for older in OLDER, None:
         for args, refusal in ((('join', 'a', 'damaged'), 'refused 15 at sheet 2 row 4: edge offices\n'),
                               (('join', 'damaged', 'none'), 'refused 15 at sheet 1 row 4: edge offices\n'),
-                              (('join', 'ab', 'b'), "refused 28 at sheet 1: joining a sheet whose office count isn't 1\n"),
+                              (('join', 'ab', 'b'), f'refused 28 at sheet 1: {SENTENCES[28]}\n'),
+                              (('read', 'typed wrong'), 'refused 42 at typed wrong:2: a repeated row: "person 11"\n'),
                               (('take', 'damaged', '1'), 'refused 15 at sheet 1 row 4: edge offices\n'),
                               (('take', 'ab', '3'), 'refused 20: office number not 1 to the count\n')):
             place = Place(room)
@@ -151,6 +157,7 @@ def no_room(room):
     place.lay('a', crowd(256).file())
     place.lay('b', crowd(256, 257).file())
     place.lay('ab', model.join(crowd(512), crowd(512))[1].file())
+    place.lay('typed', model.lines_of(crowd(512)).encode())
     place.lay('out', OLDER)
     yield from cannot(place, 'out', 'half of the result can be written', 'File too large', before='ulimit -f 5')
 
@@ -205,13 +212,14 @@ def at_once(room):
 # ---- Standard output
 
 def verbs_of(place):
-    """A run of each verb that prints an answer, one refusal, and the two texts of help."""
-    a, ab = place.path / 'a', place.path / 'ab'
+    """A run of each verb that prints an answer, two refusals, and the two texts of help."""
+    a, ab, wrong, out = (place.path / name for name in ('a', 'ab', 'typed wrong', 'out'))
     return [('check', a), ('answer', a, '1', '11', '31', '41'), ('joint', ab, '1', '11', '31', '42'),
             ('witness', a, '1', 'grant', '11', '31', '41'), ('path', a, '1', 'grant', '11', '31', '41', '11'),
             ('persons', a, '1', '22'), ('holders', a, '1', '31', '41'), ('unreached', a, '1'), ('conflict', a, '1'),
             ('duties', a, '1', '31', '31'), ('redundant', a, '1'), ('find', a, ab, 'person', '11'), ('show', a),
-            ('draw', a, '1'), ('--json', 'show', a), ('--json', 'check', a), ('--json', 'draw', a, '1'),
+            ('list', a), ('--json', 'list', a), ('read', wrong, out), ('draw', a, '1'), ('--json', 'show', a),
+            ('--json', 'check', a), ('--json', 'draw', a, '1'),
             ('--json', 'answer', a, '9', '1', '1', '1'), ('--help',), ('check', '--help'), ('--version',)]
 
 
@@ -240,7 +248,8 @@ def closed_pipe(args, **how):
 def large_output(room):
     """Output that fails half way: more than a buffer and a pipe hold."""
     file = room.file(crew(504, 8, 2048).file())
-    for args in ('show', file), ('--json', 'show', file), ('draw', file, '1'):
+    longest = room.file(wordy().file())
+    for args in ('show', file), ('--json', 'show', file), ('draw', file, '1'), ('list', longest), ('--json', 'list', longest):
         read, write = os.pipe()
         child = subprocess.Popen(['head', '-c', '10'], stdin=read, stdout=subprocess.DEVNULL)
         os.close(read)

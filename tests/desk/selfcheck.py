@@ -1,6 +1,6 @@
 """The tests can fail: what is known to be wrong has to be noticed."""
 from .drive import Finding, Ran, ask, held, held_json, same
-from .expect import Refused
+from .expect import Refused, RefusedLine
 from .known import says
 from .sheets import A, HARBOUR
 from . import drawn
@@ -26,6 +26,14 @@ def runs(room):
     yield noticed('a list that is too short', ask('wrong', 'persons', [a, 1, 22], {'persons': [11]}))
     accepted = {'offices': 1, 'nodes': 8, 'edges': 7}
     yield noticed('a line on standard error', ask('wrong', 'check', [a], accepted, 'counter: a: lost\n'))
+    typed = room.file(b'person 11\nperson 0\n')
+    for label, wrong in (('another line', RefusedLine(41, 0, b'person 0', True, typed)),
+                         ('other bytes of a line', RefusedLine(41, 1, b'person 00', True, typed)),
+                         ('no line feed', RefusedLine(41, 1, b'person 0', False, typed)),
+                         ('a line of another file', RefusedLine(41, 1, b'person 0', True, 'typed')),
+                         ('no line', Refused(41, 0, 1))):
+        yield noticed(label, ask('wrong', 'read', [typed, 'out'], wrong))
+    yield noticed('another listing', ask('wrong', 'list', [a], {'listing': 'person 11\n'}))
     graph = drawn.draw('', room.file(A.file()), ['1'])[1]
     yield noticed("another sheet's picture", drawn.rows_drawn('wrong', graph, HARBOUR, 1))
 

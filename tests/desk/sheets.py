@@ -139,3 +139,10 @@ def crew(persons, categories, edges, first=1):
     nodes = [(1, first + i, 0) for i in range(persons)] + [(2, 1 + i, 0) for i in range(categories)]
     pairs = [(1, p, persons + c) for p in range(persons) for c in range(categories)]
     return sheet(nodes, pairs[:edges])
+
+
+def wordy():
+    """The sheet with the longest listing: 507 deeds and 5 folios, all numbers and variants of ten digits, and 2,048 edges."""
+    most = 4294967295
+    nodes = [(3, most, most - 506 + i) for i in range(507)] + [(4, most - 4 + i, 0) for i in range(5)]
+    return sheet(nodes, [(5, deed, 507 + folio) for deed in range(507) for folio in range(5)][:MOST_EDGES])

@@ -4,7 +4,7 @@ import shlex
 import shutil
 from functools import partial
 
-from .drive import TOP, Finding, counter, differs, held, run, same, true
+from .drive import COUNTER, START, TOP, Finding, counter, differs, held, run, same, true
 from .room import OLDER, contents
 from .sheets import A, B
 
@@ -24,11 +24,13 @@ VERBS = {
     'find': 'FIRST SECOND person|category|deed|folio NUMBER[/VARIANT]',
     'join': 'FIRST SECOND OUT',
     'take': 'FILE OFFICE OUT',
+    'read': 'LISTING OUT',
+    'list': 'FILE',
     'show': 'FILE',
     'draw': 'FILE OFFICE [grant|ban PERSON DEED FOLIO]',
 }
-RIGHT = {'FILE': 'a', 'FIRST': 'a', 'SECOND': 'b', 'OUT': 'out', 'grant|ban': 'grant', '[grant|ban': 'grant',
-         'person|category|deed|folio': 'person', 'NUMBER[/VARIANT]': '11', 'NODE..': '11'}
+RIGHT = {'FILE': 'a', 'FIRST': 'a', 'SECOND': 'b', 'LISTING': 'listing', 'OUT': 'out', 'grant|ban': 'grant',
+         '[grant|ban': 'grant', 'person|category|deed|folio': 'person', 'NUMBER[/VARIANT]': '11', 'NODE..': '11'}
 
 NO_NUMBER = 'is no number from 0 to 4294967295'
 NO_KIND = 'is neither grant nor ban'
@@ -77,15 +79,16 @@ def places(verb):
         name = name if name.endswith('VARIANT]') else name.rstrip(']')
         if name in WRONG:
             yield place, WRONG[name]
-        elif name not in ('FILE', 'FIRST', 'SECOND'):
+        elif name not in ('FILE', 'FIRST', 'SECOND', 'LISTING'):
             yield place, [(word, NO_NUMBER) for word in NUMBERS]
 
 
 def desk(room):
-    """A folder with A, B and an older OUT."""
+    """A folder with A, B, a listing and an older OUT."""
     made = room.folder()
     (made / 'a').write_bytes(A.file())
     (made / 'b').write_bytes(B.file())
+    (made / 'listing').write_bytes(b'person 11\n')
     (made / 'out').write_bytes(OLDER)
     return made
 
@@ -182,6 +185,31 @@ def help_of_all():
     yield held('tools/counter runs it', ran, 0, f'counter {version}\n')
 
 
+# ---- Pages
+
+def examples():
+    """The examples of docs/COUNTER.md: a line of the shell, and what stands under it. Pictures are tests/picture's."""
+    page = (TOP / 'docs' / 'COUNTER.md').read_text()
+    for block in re.findall(r'(?:^    .*\n)+', page, re.M):
+        for example in re.findall(r'^    \$ (.*)\n((?:    (?!\$ ).*\n)*)', block, re.M):
+            if re.match(r'counter|printf|cat', example[0]) and '| dot' not in example[0]:
+                yield example[0], re.sub(r'^    ', '', example[1], flags=re.M)
+
+
+def examples_are_true(room):
+    """Each prints what stands under it, standard error included, in the folder sheets/."""
+    cwd, commands = room.folder() / 'sheets', room.folder()
+    shutil.copytree(TOP / 'sheets', cwd)
+    (commands / 'counter').write_text(f'#!/bin/sh\nexec {shlex.join([*START, str(COUNTER)])} "$@"\n')
+    (commands / 'counter').chmod(0o755)
+    tried = list(examples())
+    shown = {line.split()[1] for line, _ in tried}
+    yield same('verbs without an example in docs/COUNTER.md', set(), set(VERBS) - {'draw'} - shown)
+    for line, under in tried:
+        ran = run(['bash', '-c', f'PATH={shlex.quote(str(commands))}:$PATH; {{ {line}; }} 2>&1'], cwd=cwd)
+        yield same(f'docs/COUNTER.md: {line}', under.encode(), ran.out)
+
+
 def accepted(word):
     """Whether the command has this verb."""
     said = counter(word).err.decode().split('\n')[0]
@@ -225,3 +253,4 @@ def tests(room):
     yield verbs_unknown
     yield help_of_all
     yield same_verbs
+    yield partial(examples_are_true, room)

@@ -20,6 +20,8 @@ OF_A_QUESTION = {
     'find': {32},
     'join': {28, 29, 30},
     'take': {20},
+    'read': {40, 41, 42, 14, 43, 4},
+    'list': {28},
     'show': set(),
     'draw': {20, 21, 22, 23, 26},
 }
@@ -33,4 +35,5 @@ def whole():
     for verb, numbers in OF_A_QUESTION.items():
         for form in 'text', 'JSON':
             seen = {number for shown, number, how in SHOWN if (shown, how) == (verb, form)}
-            yield same(f'{verb}, what it was seen to give in {form}', sorted({0} | OF_A_FILE | numbers), sorted(seen))
+            of_a_file = set() if verb == 'read' else OF_A_FILE
+            yield same(f'{verb}, what it was seen to give in {form}', sorted({0} | of_a_file | numbers), sorted(seen))

@@ -1,10 +1,7 @@
 /* Puts what the fuzzer makes to the counter's entries on bytes, and compares all that comes back with the second program's
    judgement: the reply, the whole output, and the file, which nobody may change. A difference ends the run as a fault does. */
 
-#include <stdint.h>
-#include <stdio.h>
-#include <stdlib.h>
-#include <string.h>
+#include "common.h"
 
 struct answer { uint32_t number, sheet, row, value, count; };
 struct refusal { uint32_t number, sheet, row; };
@@ -21,27 +18,13 @@ void second_judge(uint32_t question, const uint8_t *file, size_t length, const u
                   uint32_t *reply);
 
 /* The fuzzer's bytes: office or rule, kind, person, deed, folio and room, a word each, and then the file. */
-enum { NUMBERS = 5, PREFIX = 4 * (NUMBERS + 1), MOST_ROOM = 4200, FILL = 0xA5 };
+enum { NUMBERS = 5, PREFIX = 4 * (NUMBERS + 1), MOST_ROOM = 4200 };
 
 /* What each question's entry takes. The first two have no kind. */
 static const int order[4][NUMBERS] = {{0, 1, 2, 3, 4}, {0, 2, 3, 4, 1}, {0, 2, 3, 4, 1}, {0, 1, 2, 3, 4}};
 
-/* MISREAD breaks the comparison on purpose: 1 lets the second program see whole words alone, 2 makes its 17 a 16, and 3 tells
-   the witness of four bytes more than the output has. tests/fuzz/run tries that each is found. */
-#ifndef MISREAD
-#define MISREAD 0
-#endif
-
-static void *copied(const void *from, size_t length) {
-    void *to = malloc(length);
-    if (!to) abort();
-    if (length) memcpy(to, from, length);
-    return to;
-}
-
-static uint32_t word_at(const uint8_t *bytes) {
-    return bytes[0] | (uint32_t)bytes[1] << 8 | (uint32_t)bytes[2] << 16 | (uint32_t)bytes[3] << 24;
-}
+/* MISREAD 1 lets the second program see whole words alone, 2 makes its 17 a 16, and 3 tells the witness of four bytes more than
+   the output has. */
 
 static struct answer entry(uint32_t question, const uint8_t *file, size_t length, const uint32_t *n, uint8_t *out, size_t room) {
     struct answer a = {0, 0, 0, 0, 0};
@@ -68,10 +51,7 @@ static void differ(uint32_t question, const char *what, const struct answer *got
 static void put(uint32_t question, const uint8_t *bytes, size_t length, const uint32_t *words, size_t room) {
     uint32_t numbers[NUMBERS], want[5];
     for (int i = 0; i < NUMBERS; i++) numbers[i] = words[order[question][i]];
-    uint8_t *file = copied(bytes, length), *out = malloc(room), *out_wanted = malloc(room);
-    if (!out || !out_wanted) abort();
-    memset(out, FILL, room);
-    memset(out_wanted, FILL, room);
+    uint8_t *file = copied(bytes, length), *out = filled(room), *out_wanted = filled(room);
     struct answer got = entry(question, file, length, numbers, out, room);
     second_judge(question, bytes, MISREAD == 1 ? length / 4 * 4 : length, numbers, out_wanted, room, want);
     if (MISREAD == 2 && want[0] == 17) want[0] = 16;

@@ -1,5 +1,5 @@
 //! The second program's own judgement as a library for C: what the counter's
-//! entries have to answer, byte for byte.
+//! entries and the reader of listings have to answer, byte for byte.
 
 // Much of the second program's model is not used here.
 #![allow(dead_code)]
@@ -10,6 +10,7 @@ mod model;
 use model::answer::{Answer, Refusal};
 use model::counter::by_counter;
 use model::judge::{judge_bytes, Verdict};
+use model::listing;
 use model::sheet::bytes_of;
 
 /// number, sheet, row, value, count
@@ -53,4 +54,26 @@ pub unsafe extern "C" fn second_judge(
     };
     std::slice::from_raw_parts_mut(reply, 5).copy_from_slice(&words);
     std::slice::from_raw_parts_mut(out, room)[..bytes.len()].copy_from_slice(&bytes);
+}
+
+/// The reply has room for four: number, sheet, line, count; `out` has room for as
+/// many words as the reader's output.
+///
+/// # Safety
+/// Every pointer has to be good for so many.
+#[no_mangle]
+pub unsafe extern "C" fn second_read_listing(
+    text: *const u8,
+    length: usize,
+    out: *mut u32,
+    room: usize,
+    reply: *mut u64,
+) {
+    let text = std::slice::from_raw_parts(text, length);
+    let (numbers, words) = match listing::read(text, room) {
+        Ok(Answer { count, written, .. }) => ([0, 0, 0, count], written),
+        Err(Refusal { number, sheet, row }) => ([number, sheet, row, 0], Vec::new()),
+    };
+    std::slice::from_raw_parts_mut(reply, 4).copy_from_slice(&numbers.map(u64::from));
+    std::slice::from_raw_parts_mut(out, room)[..words.len()].copy_from_slice(&words);
 }

@@ -9,6 +9,7 @@ use lib.Dec.{ltb}
 use lib.ListN.{length, getD, set, take}
 use lib.Seq.{getD-take, length-take-le, getD-set-same, getD-set-other}
 use borrow.Author.Count.{below-more}
+use Rattle.tables.specs.Count.{FirstStanding}
 use Rattle.sheet.specs.declared.Header.{Header}
 use Rattle.sheet.specs.Limits.{maxOffices}
 use Rattle.sheet.specs.Rows.{headerOf}
@@ -17,7 +18,7 @@ use Rattle.sheet.specs.Named.{seenAt}
 use Rattle.sheet.proofs.Refusing.{taken, left}
 use Rattle.meaning.specs.Answers.{AnswerIs, Joint, lowest, jointly, JointAnswerIs}
 use Rattle.question.specs.declared.Question.{Question}
-use Rattle.question.specs.Asked.{FirstStanding, unknown, jointFault}
+use Rattle.question.specs.Asked.{unknown, jointFault}
 
 module _ (test : ℕ → Bool) (tell : ℕ → ℕ) where
   -- past an answer that does not pass, the search goes on

@@ -5,6 +5,7 @@ use mathlib.Core.Path.{_≡_, refl, ap, subst}
 use mathlib.Core.Bool.{Bool, true, false, not}
 use mathlib.Core.List.{List}
 use lib.Dec.{ltb}
+use Rattle.tables.proofs.Counts.{found-known}
 use Rattle.sheet.specs.declared.Header.{Header}
 use Rattle.sheet.specs.Refusals.{_when_otherwise_}
 use Rattle.sheet.specs.Rows.{headerOf}
@@ -15,7 +16,6 @@ use Rattle.tables.specs.Office.{View}
 use Rattle.meaning.specs.Paths.{Side, grant, ban, HasPath}
 use Rattle.meaning.specs.Answers.{Says, answered, AnswerIs}
 use Rattle.question.specs.declared.Question.{Question}
-use Rattle.question.proofs.Known.{found-known}
 use Rattle.ask.specs.declared.Places.{Places}
 use Rattle.question.specs.Asked.{known, unknown, sideOf}
 use Rattle.ask.specs.Placed.{Placed, FoundAll, unfound}

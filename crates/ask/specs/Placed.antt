@@ -4,6 +4,7 @@ use Prim.Native.Nat.{ℕ, _<_}
 use mathlib.Core.Path.{_≡_}
 use mathlib.Core.Bool.{Bool, not}
 use mathlib.Core.List.{List}
+use Rattle.tables.specs.Count.{FirstStanding}
 use Rattle.sheet.specs.Refusals.{_below_, _when_otherwise_}
 use Rattle.sheet.specs.Rows.{headerOf, nodeKeyAt}
 use Rattle.sheet.specs.Seats.{Seated}
@@ -11,7 +12,7 @@ use Rattle.meaning.specs.Paths.{person, folio}
 use Rattle.question.specs.declared.Question.{Question}
 use Rattle.ask.specs.declared.Places.{Places}
 use Rattle.ask.specs.declared.Stand.{Stand}
-use Rattle.question.specs.Asked.{seatFor, stands, askFault, FirstStanding}
+use Rattle.question.specs.Asked.{seatFor, stands, askFault}
 
 -- the rows of the question's person and folio, and that its deed is one
 pub record Placed (s : List ℕ) (q : Question) (rp rf : ℕ) : Type 0 where

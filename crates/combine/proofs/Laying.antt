@@ -2,15 +2,14 @@
 -- Assumes nothing.
 use Prim.Native.Nat.{ℕ, _+_, _^_, _<_, _≤_}
 use mathlib.Core.Path.{_≡_, refl, sym, ap, ap₂, subst, _∙_}
-use mathlib.Core.Bool.{true, true≢false}
+use mathlib.Core.Bool.{true}
 use mathlib.Core.List.{List, []}
 use native.Mathlib.Omega.{arith}
 use native.Mathlib.Decide.{decLt}
-use lib.ListN.{length}
 use Rattle.tables.specs.Key.{Key, identity, relation, belowKey}
 use Rattle.tables.specs.Marks.{within}
 use Rattle.tables.specs.Table.{Row, rowsOf, marksAt}
-use Rattle.tables.proofs.Keys.{Lies, lower, equal, higher, lies, below-apart, below-asym, one-row}
+use Rattle.tables.proofs.Keys.{one-row}
 use Rattle.tables.proofs.Marks.{within-none, within-some}
 use Rattle.tables.proofs.Tables.{marks-named, row-of, rows-alike}
 use Rattle.sheet.specs.declared.Header.{Header}
@@ -23,7 +22,7 @@ use Rattle.sheet.specs.Accepted.{NodeFits, EdgeShaped, EdgeFits, RowsRise, Acce
 use Rattle.sheet.specs.Named.{nodeRow, edgeRow, tablesOf}
 use Rattle.sheet.specs.Found.{PlaceIs}
 use Rattle.sheet.proofs.Built.{built, built-header, built-fits, built-table, built-node, built-edge}
-use Rattle.sheet.proofs.Naming.{lower-named}
+use Rattle.sheet.proofs.Naming.{rise-named}
 use Rattle.sheet.proofs.Places.{stands-there}
 use Rattle.sheet.specs.declared.Half.the-variants.{Nodes, Edges}
 use Rattle.combine.specs.Combined.{Making, keys, Combined, PlacesIn}
@@ -252,30 +251,10 @@ module _ (N E : Making) (c : ℕ) (a b : List ℕ) (va : Accepted a) (vb : Accep
         in-to = rw (f .marks) (f .to .bears);
       }
 
-  -- rows that rise by what they name rise by row numbers
   laid-edges-rise : RowsRise (edgeKeyAt (headerOf t) we) e
-  unfolding edgeRow
-  laid-edges-rise v l = go (lies (edgeKeyAt (headerOf t) we v) (edgeKeyAt (headerOf t) we (v + 1)))
-    where
-      up : belowKey (edgeRow t we v .key) (edgeRow t we (v + 1) .key) ≡ true
-      up = ap₂ (λ (x y : Row). belowKey (x .key) (y .key)) (edge-row v (omega arith)) (edge-row (v + 1) l) ∙ CE .table .up v l
-
-      one : EdgeFrom v
-      one = edge-from v (omega arith)
-
-      two : EdgeFrom (v + 1)
-      two = edge-from (v + 1) l
-
-      go : Lies (edgeKeyAt (headerOf t) we v) (edgeKeyAt (headerOf t) we (v + 1)) → belowKey (edgeKeyAt (headerOf t) we v) (edgeKeyAt (headerOf t) we (v + 1)) ≡ true
-      go (lower u s w) = u
-      go (equal q) =
-          let kind : edgeAt (headerOf t) we v .kind ≡ edgeAt (headerOf t) we (v + 1) .kind = cc in
-          let from : edgeAt (headerOf t) we v .from ≡ edgeAt (headerOf t) we (v + 1) .from = cc in
-          let to : edgeAt (headerOf t) we v .to ≡ edgeAt (headerOf t) we (v + 1) .to = cc in
-          absurd (below-apart (edgeRow t we v .key) (edgeRow t we (v + 1) .key) up (λ i. relation (kind i) (nodeKeyAt t (from i)) (nodeKeyAt t (to i))))
-      go (higher u s w) =
-          absurd (true≢false (sym (lower-named t n laid-nodes-rise (edgeAt (headerOf t) we (v + 1)) (edgeAt (headerOf t) we v) (two .from .stands) (one .from .stands) (two .to .stands) (one .to .stands) u)
-          ∙ below-asym (edgeRow t we v .key) (edgeRow t we (v + 1) .key) up))
+  laid-edges-rise =
+      rise-named t we n e laid-nodes-rise (λ v l. (edge-from v l .from .stands, edge-from v l .to .stands))
+      (λ v l. ap₂ (λ (x y : Row). belowKey (x .key) (y .key)) (edge-row v (omega arith)) (edge-row (v + 1) l) ∙ CE .table .up v l)
 
   -- ---- all of it
 

@@ -1,11 +1,11 @@
 -- The whole sheet: what was measured is what is written, and header, node rows and edge rows stand one behind the other, the rows through lent tails of the output.
 -- Assumes nothing.
-use Prim.Native.Nat.{ℕ, _+_, _-_, _*_, _<_, _≤_}
+use Prim.Native.Nat.{ℕ, _+_, _-_, _<_, _≤_}
 use mathlib.Core.Path.{_≡_, refl, sym, ap, subst, _∙_}
-use mathlib.Core.List.{List, [], _++_, append-assoc, append-nil}
+use mathlib.Core.List.{List, [], _++_}
 use native.Mathlib.Omega.{arith}
-use lib.ListN.{length, getD, take, drop, replicate, length-replicate, length-append, length-drop, drop-of-length-le}
-use lib.Seq.{sets, length-sets, sets-eq, take-at, drop-at, drop-drop, length-take-le}
+use lib.ListN.{length, getD, take, drop, replicate, length-replicate, length-append, length-drop}
+use lib.Seq.{sets, length-sets}
 use Rattle.tables.specs.Table.{Row}
 use Rattle.sheet.specs.declared.Header.{Header}
 use Rattle.sheet.specs.Limits.{maxNodes, maxEdges, sheetWords, edgesFrom, edgePlace}
@@ -14,7 +14,7 @@ use Rattle.sheet.specs.Found.{PlaceIs}
 use Rattle.sheet.specs.Accepted.{Accepted}
 use Rattle.sheet.specs.Named.{nodeRow}
 use Rattle.sheet.proofs.Built.{built-long, built-header}
-use Rattle.sheet.proofs.Refusing.{from-on}
+use Rattle.sheet.proofs.Tails.{first-room, second-room, two-tails}
 use Rattle.sheet.specs.Stored.{headerSix}
 use Rattle.sheet.specs.declared.Half.{Half}
 use Rattle.sheet.specs.declared.Half.the-variants.{Nodes, Edges}
@@ -28,36 +28,6 @@ use Rattle.combine.proofs.Reading.{entry-inside}
 use Rattle.combine.proofs.Walking.{writes}
 use Rattle.combine.proofs.Laying.{combined}
 use Rattle.combine.proofs.Alike.{half-one, place-alike}
-
--- ---- lent tails
-
--- the tail of l, where its front p ends, is lent, and ws is written to its front
-lent-front : (l p q ws t : List ℕ) (e : ℕ) → l ≡ p ++ q → length p ≡ e → t ≡ ws ++ drop (length ws) (take (length l - e) (drop e l))
-    → take e l ++ (t ++ drop (length l - e) (drop e l)) ≡ (p ++ ws) ++ drop (length ws) q
-lent-front l p q ws t e at long holds =
-    let a : drop e l ≡ q = ap (drop e) at ∙ drop-at p q e long in
-    let b : take e l ≡ p = ap (take e) at ∙ take-at p q e long in
-    let c : take (length l - e) (drop e l) ≡ q = from-on l e ∙ a in
-    let d : drop (length l - e) (drop e l) ≡ [] = drop-of-length-le (drop e l) {i = length l - e} (omega (arith, length-drop e l)) in
-    let f : t ≡ ws ++ drop (length ws) q = holds ∙ ap (λ (x : List ℕ). ws ++ drop (length ws) x) c in
-    (λ i. b i ++ (f i ++ d i)) ∙ ap (λ (x : List ℕ). p ++ x) (append-nil (ws ++ drop (length ws) q)) ∙ sym (append-assoc p ws (drop (length ws) q))
-
--- a tail that is lent after another was given back has the room that the output has
-pub second-room : (l t : List ℕ) (d k q : ℕ) → d ≤ length l → length t ≡ length (take (length l - d) (drop d l)) → k + q ≤ length l
-    → q ≤ length (take (length (take d l ++ (t ++ drop (length l - d) (drop d l))) - k) (drop k (take d l ++ (t ++ drop (length l - d) (drop d l)))))
-second-room l t d k q g e h =
-    let a = ap length (from-on l d) in
-    let b = length-drop d l in
-    let c = length-take-le d l g in
-    let f = length-drop (length l - d) (drop d l) in
-    let m = length-append (take d l) (t ++ drop (length l - d) (drop d l)) in
-    let n = length-append t (drop (length l - d) (drop d l)) in
-    let r = ap length (from-on (take d l ++ (t ++ drop (length l - d) (drop d l))) k) in
-    let s = length-drop k (take d l ++ (t ++ drop (length l - d) (drop d l))) in
-    omega arith
-
-pub first-room : (form : ℕ) (l : List ℕ) (n e : ℕ) → sheetWords form n e ≤ length l → rowPlace Nodes form n ≤ length (take (length l - 6) (drop 6 l))
-first-room form l n e h = omega (arith, ap length (from-on l 6), length-drop 6 l)
 
 -- what is written keeps the output's length
 written-long : (rule : Rule) (half : Half) (a : List ℕ) (h : Header) (b : List ℕ) (g : Header) (ma mb : List ℕ) (k : ℕ) (out out′ : List ℕ) → Written rule half a h b g ma mb k out out′ → rowPlace half (h .form) k ≤ length out → length out′ ≡ length out
@@ -95,23 +65,12 @@ module _ (nodes edges : Rule) (c : ℕ) (a b : List ℕ) (Q : Pair nodes edges c
     abbrev e : ℕ
     e = m .edges
 
-    six : length (headerSix form c n e) ≡ 6
-    unfolding headerSix
-    six = refl
-
-    headed : l ≡ headerSix form c n e ++ drop 6 out
-    unfolding headerSix
-    headed = first ∙ sets-eq (headerSix form c n e) out 0 (omega arith)
-
     laid : (t : List ℕ) → Written nodes Nodes a (headerOf a) b (headerOf b) [] [] n (take (length l - 6) (drop 6 l)) t → (k : List ℕ) → k ≡ take 6 l ++ (t ++ drop (length l - 6) (drop 6 l))
         → (u : List ℕ) → Written edges Edges a (headerOf a) b (headerOf b) ma mb e (take (length k - edgesFrom n) (drop (edgesFrom n) k)) u
         → Laid nodes edges c a (headerOf a) b (headerOf b) m out (take (edgesFrom n) k ++ (u ++ drop (length k - edgesFrom n) (drop (edgesFrom n) k)))
     laid t WN k second u WE =
         let wn = WN .words in
         let we = WE .words in
-        let s = second ∙ lent-front l (headerSix form c n e) (drop 6 out) wn t 6 headed six (WN .holds) in
-        let long : length (headerSix form c n e ++ wn) ≡ edgesFrom n = length-append (headerSix form c n e) wn ∙ omega (arith, six, WN .spells .long) in
-        let z : 6 + length wn + length we ≡ sheetWords form n e = omega (arith, WN .spells .long, WE .spells .long) in
         let hd = built-header form c n e wn we (WN .spells .long) (WE .spells .long) in
         let all : length (headerSix form c n e ++ wn ++ we) ≡ sheetWords form n e = built-long form c n e wn we (WN .spells .long) (WE .spells .long) in
         record {
@@ -120,8 +79,7 @@ module _ (nodes edges : Rule) (c : ℕ) (a b : List ℕ) (Q : Pair nodes edges c
               (places a ma (Q .first) (M .first-long) (WN .row) (WN .combined) (M .node-rows .first)) (places b mb (Q .second) (M .second-long) (WN .row) (WN .combined) (M .node-rows .second));
           long = all;
           rows = (ap (λ (x : Header). x .nodes) hd, ap (λ (x : Header). x .edges) hd);
-          holds = lent-front k (headerSix form c n e ++ wn) (drop (length wn) (drop 6 out)) we u (edgesFrom n) s long (WE .holds)
-              ∙ ap (λ (x : List ℕ). headerSix form c n e ++ wn ++ we ++ x) (ap (drop (length we)) (drop-drop (length wn) 6 out) ∙ drop-drop (length we) (6 + length wn) out ∙ ap (λ (x : ℕ). drop x out) (z ∙ sym all));
+          holds = two-tails form c n e out wn we (WN .spells .long) (WE .spells .long) room l t k u first (WN .holds) second (WE .holds);
         }
 
 -- .. under the headers that the sheets have

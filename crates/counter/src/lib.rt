@@ -1,5 +1,6 @@
 // The counter: what a program in C or Rust calls. Questions 1 to 3 and the check are asked of a file's bytes, and every other function of a sheet's words.
 use join::Joined;
+use listing::Listing;
 use question::Answer;
 use question::Question;
 use sheet::MAX_WORDS;
@@ -20,6 +21,7 @@ ghost use Rattle.join_files.specs.JoinedFiles.{JoinsFiles};
 ghost use Rattle.ask.specs.Promises.{AnswersAtOffice, AnswersJointly, WitnessOf, Witnesses};
 ghost use Rattle.claim.specs.Promises.{TellsPath};
 ghost use Rattle.lists.specs.Promises.{ListsPersonsInCategory, ListsPersonsWithGrant, ListsFoliosOutOfReach, ShowsLeastTriple, ShowsLeastHolder, ListsRedundantEdges};
+ghost use Rattle.listing.specs.Promises.{ReadsListing, WritesListing};
 ghost use Rattle.counter.specs.Filed.{asking, seeking, WasRead, afterFile, InBytes};
 
 // No witness is longer: a person, a deed and a folio, and categories, each with a row of its own.
@@ -461,4 +463,20 @@ pub extern "C" fn tormukai_look_up_refusal(
     ensures { λ r. ⌜ r ≡ lookFault (now (first .entry)) (now (second .entry)) (identity class number variant) ⌝ }
 {
     lookup::look_up_refusal(first, second, class, number, variant)
+}
+
+// Reads a text as a listing into a one-office sheet: how many words in `count`. A line is told by its number, from 0, in `row`.
+#[no_mangle]
+pub extern "C" fn tormukai_read_listing(text: &[u8], out: &mut [u32]) -> Listing
+    ensures { λ a. ⌜ ReadsListing (now (text .entry)) (now (out .entry)) a (now (out .exit)) ⌝ }
+{
+    listing::read_listing(text, out)
+}
+
+// Writes a one-office sheet as a listing: how many bytes in `count`.
+#[no_mangle]
+pub extern "C" fn tormukai_write_listing(sheet: &[u32], out: &mut [u8]) -> Listing
+    ensures { λ a. ⌜ WritesListing (now (sheet .entry)) (now (out .entry)) a (now (out .exit)) ⌝ }
+{
+    listing::write_listing(sheet, out)
 }

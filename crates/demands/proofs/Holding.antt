@@ -52,6 +52,8 @@ use Rattle.demands.specs.Demands.{NoSuch, PathOf, RowPartOf, OfWords, De
 use Rattle.demands.proofs.Counting.{nodes-union, edges-union}
 use Rattle.demands.proofs.Together.{not-refusing, none-refuses, no-two-pairs, takes-out, joins-again, asked-combined, asked-within}
 use Rattle.demands.proofs.Keeping.{sheet-says, lookup-says, file-says, joins-keep, files-keep, writer-keeps, shows-keep}
+use Rattle.listing.specs.Printed.{printed, printFault}
+use Rattle.demands.proofs.Listed.{gives-keeps, reading-keeps}
 use Rattle.demands.proofs.Existing.{persons-some, holders-some, unreached-some, redundant-some, office-some}
 use Rattle.demands.proofs.Least.{none-first, none-least}
 use Rattle.demands.proofs.Answering.{told-is, four, gives-exactly, by-priority, by-order, side-decides, first-decided, no-is, yes-is, front-is, not-shown, in-bytes-of, none-in-bytes}
@@ -183,6 +185,8 @@ demand-1 = record {
   counter-2 = λ f q x. file-says f _ _ x;
   counter-3 = λ f q out x. shows-keep _ _ _ (bytes-one (WitnessOf (wordsOf f) q) (witness-one (asked (wordsOf f) q) (sideOf (q .kind)) (q .person) (q .deed) (q .folio))) (λ z. no-path-bytes f q) out x;
   writing = writer-keeps;
+  read-listing = λ text out {a} {out′} r. reading-keeps text out a out′ r;
+  write-listing = λ s out {a} {out′} w. gives-keeps (printFault s) (printed s) out a out′ w;
   look-up = look;
   look-up-row = look-row;
   look-up-place = λ a b k x. (lookup-says a b k x, told-is _ _ x);

@@ -4,6 +4,7 @@ pub mod Keeping
 pub mod Existing
 pub mod Least
 pub mod Answering
+pub mod Listed
 pub mod Holding
 pub mod MistakesOfRefusals
 pub mod MistakesOfAnswers

@@ -43,6 +43,11 @@ use Rattle.join.specs.declared.Joined.{Joined}
 use Rattle.join.specs.Joins.{sharedNodes, sharedEdges, unionNodes, unionEdges, joinFault, Joining}
 use Rattle.join_files.specs.JoinedFiles.{filesFault, JoinsFiles}
 use Rattle.takeout.specs.Promises.{TakesOut}
+use Rattle.listing.specs.declared.Listing.{Listing}
+use Rattle.listing.specs.Cut.{linesSaid}
+use Rattle.listing.specs.Faults.{nodeLines, edgeLines, listingFault}
+use Rattle.listing.specs.Printed.{printed, printFault}
+use Rattle.listing.specs.Promises.{refusalIn, ReadsListing, WritesListing}
 
 -- ==== Demand 1: a bad sheet or question gets the first number that applies in the table, under no other condition, and all lent memory stays untouched
 
@@ -141,6 +146,11 @@ pub record Demand1 : Type 0 where
   -- reading a file into words and writing words as bytes: what refuses it, then 25
   pub writing : (refusal : Refusal) (result out : List ℕ) {r : Refusal} {out′ : List ℕ} → Writes refusal result out r out′
       → Keeps (λ x. x ≡ (refusal then short (length out) (length result))) r (length result) out out′ × (r .number ≡ 0 → InFront result out out′)
+  -- reading a listing: the first line's fault, 43, 4, then 25 where the output is shorter than a sheet of its node lines and edge lines; and writing one
+  pub read-listing : (text out : List ℕ) {a : Listing} {out′ : List ℕ} → ReadsListing text out a out′
+      → Keeps (λ x. x ≡ (listingFault text then short (length out) (sheetWords 1 (nodeLines (linesSaid text)) (edgeLines (linesSaid text))))) (refusalIn a) (a .count) out out′
+  pub write-listing : (s out : List ℕ) {a : Listing} {out′ : List ℕ} → WritesListing s out a out′
+      → Keeps (λ x. x ≡ (printFault s then short (length out) (length (printed s)))) (refusalIn a) (a .count) out out′
   -- a refused lookup gives the empty part, and no other does; the entry for its refusal returns `lookFault`
   pub look-up : (a b : Part) (k : Key) {p : Part} → LooksUp a b k p → (p .words ≡ []) ↔ (lookFault (a .words) (b .words) k .number ≡ 0 → ⊥)
   -- else it gives the row as it stands in the first sheet that has it, first before second

@@ -9,6 +9,7 @@ use mathlib.Core.Logic.{_⊎_, inl, inr, ⊎-elim}
 use lib.ListN.{length, getD, set}
 use lib.Seq.{getD-set-same, getD-set-other}
 use borrow.Author.Tests.{ltb-true}
+use Rattle.tables.specs.Count.{FirstStanding}
 use Rattle.tables.specs.Key.{identity}
 use Rattle.sheet.specs.declared.Header.{Header}
 use Rattle.sheet.specs.declared.Seat.{Seat}
@@ -22,7 +23,7 @@ use Rattle.meaning.specs.Forms.{Rising}
 use Rattle.meaning.specs.Questions.{InCategory, PersonsInCategoryAre, PersonsWithGrantAre}
 use Rattle.meaning.proofs.Axioms.{a1-a2}
 use Rattle.walk.specs.declared.Walk.{Walk}
-use Rattle.question.specs.Asked.{FirstStanding, stands, known}
+use Rattle.question.specs.Asked.{stands, known}
 use Rattle.tables.proofs.Counts.{some-row}
 use Rattle.question.specs.Checked.{AtSeat}
 use Rattle.ask.proofs.Links.{walkFor}

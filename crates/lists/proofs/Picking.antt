@@ -8,6 +8,8 @@ use mathlib.Core.List.{List}
 use lib.Dec.{eqb, ltb}
 use lib.ListN.{getD}
 use borrow.Author.Tests.{eqb-true, eq-eqb}
+use Rattle.tables.proofs.Counts.{found-known}
+use Rattle.tables.specs.Count.{FirstStanding}
 use Rattle.tables.specs.Marks.{marked}
 use Rattle.sheet.specs.declared.Header.{Header}
 use Rattle.sheet.specs.declared.Node.{Node}
@@ -17,8 +19,7 @@ use Rattle.sheet.specs.Rows.{headerOf, nodeAt}
 use Rattle.paths.proofs.Tests.{and-left, and-right, both}
 use Rattle.meaning.specs.Forms.{Rising}
 use Rattle.question.specs.declared.Question.{Question}
-use Rattle.question.specs.Asked.{seatFor, FirstStanding, stands, known, badOffice}
-use Rattle.question.proofs.Known.{found-known}
+use Rattle.question.specs.Asked.{seatFor, stands, known, badOffice}
 use Rattle.lists.specs.Picked.{wanted, Picked, PickedNumber}
 use Rattle.lists.specs.Sought.{unknownCategory, unknownRight, badPair, soughtFault}
 use Rattle.reach.proofs.Collecting.{Collected, collected-all}

@@ -1,7 +1,6 @@
 -- What questions 1 to 4 refuse, in the table's order.
 -- Assumes nothing.
-use Prim.Native.Nat.{ℕ, zero, suc, _<_, _≤_}
-use mathlib.Core.Path.{_≡_}
+use Prim.Native.Nat.{ℕ, zero, suc}
 use mathlib.Core.Bool.{Bool, true, false, not, _&&_, _||_}
 use mathlib.Core.List.{List}
 use Rattle.tables.specs.Count.{someRow}
@@ -67,9 +66,3 @@ plain k = refuse k 0 0 none
 -- the sheet's own refusal, then the question's
 unfoldable pub afterSheet : List ℕ → ℕ → Refusal
 afterSheet s k = verdict 1 s then plain k
-
--- the first row below n that passes, or n
-pub record FirstStanding (f : ℕ → Bool) (n r : ℕ) : Type 0 where
-  pub most : r ≤ n
-  pub before : (i : ℕ) → i < r → f i ≡ false
-  pub found : r < n → f r ≡ true

@@ -8,13 +8,14 @@ use sheet::Seat;
 ghost use mathlib.Core.Path.{_≡_};
 ghost use mathlib.Core.Bool.{_&&_, _||_};
 ghost use Prim.Native.Nat.{_^_, _<_, _≤_};
+ghost use Rattle.tables.specs.Count.{FirstStanding};
 ghost use Rattle.sheet.specs.Limits.{maxOffices};
 ghost use Rattle.sheet.specs.Refusals.{_is_};
 ghost use Rattle.tables.specs.Marks.{marked};
 ghost use Rattle.sheet.specs.Accepted.{NodesFormed};
 ghost use Rattle.sheet.specs.Seats.{seatAt, Seated};
 ghost use Rattle.meaning.specs.Paths.{rightKind};
-ghost use Rattle.question.specs.Asked.{FirstStanding, stands, badOffice, sideOf};
+ghost use Rattle.question.specs.Asked.{stands, badOffice, sideOf};
 ghost use Rattle.question.specs.Replies.{refusedBy, tells};
 
 // What a question's kind asks for: grants, or bans, which any other number asks for too.

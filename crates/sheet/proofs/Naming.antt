@@ -10,11 +10,11 @@ use Rattle.tables.specs.Marks.{marked, within}
 use Rattle.tables.specs.Table.{marksAt, Rise}
 use Rattle.tables.specs.Office.{heldBy, Same}
 use Rattle.tables.proofs.Alike.{held-marks}
-use Rattle.tables.proofs.Keys.{Ahead, first, rest, ahead, behind, below-first, below-second, rises}
+use Rattle.tables.proofs.Keys.{Lies, lower, equal, higher, lies, below-apart, below-asym, Ahead, first, rest, ahead, behind, below-first, below-second, rises}
 use Rattle.tables.proofs.Marks.{within-marked}
 use Rattle.tables.proofs.Tables.{rows-rise, MarkedRow, held-row, row-held}
 use Rattle.sheet.specs.declared.Edge.{Edge}
-use Rattle.sheet.specs.Rows.{headerOf, nodeAt, edgeOf, edgeTable, edgeKey, nodeKeyAt, endsFit}
+use Rattle.sheet.specs.Rows.{headerOf, nodeAt, edgeAt, edgeOf, edgeTable, edgeKey, nodeKeyAt, edgeKeyAt, endsFit}
 use Rattle.sheet.specs.Accepted.{RowsRise, Accepted}
 use Rattle.sheet.specs.Named.{nodeRow, edgeRow, tablesOf, heldAt, seenAt}
 
@@ -39,6 +39,30 @@ lower-named s n up e d ef df et dt l = behind _ _ _ _ (kinds (ahead _ _ _ _ l))
         → Ahead (e .kind) (d .kind) (nodeKeyAt s (e .from) ++ nodeKeyAt s (e .to)) (nodeKeyAt s (d .from) ++ nodeKeyAt s (d .to))
     kinds (first m) = first m
     kinds (rest q m) = rest q (froms (ahead _ _ _ _ m))
+
+-- and edge rows that rise by what they name rise by row numbers
+pub rise-named : (s t : List ℕ) (n e : ℕ) → RowsRise (nodeKeyAt s) n → ((v : ℕ) → v < e → (edgeAt (headerOf s) t v .from < n) × (edgeAt (headerOf s) t v .to < n))
+    → RowsRise (λ v. edgeRow s t v .key) e → RowsRise (edgeKeyAt (headerOf s) t) e
+unfolding edgeRow
+rise-named s t n e up ends named v l = go (lies (edgeKeyAt (headerOf s) t v) (edgeKeyAt (headerOf s) t (v + 1)))
+  where
+    one : Edge
+    one = edgeAt (headerOf s) t v
+
+    two : Edge
+    two = edgeAt (headerOf s) t (v + 1)
+
+    go : Lies (edgeKey one) (edgeKey two) → belowKey (edgeKey one) (edgeKey two) ≡ true
+    go (lower u w x) = u
+    go (equal q) =
+        let kind : one .kind ≡ two .kind = cc in
+        let from : one .from ≡ two .from = cc in
+        let to : one .to ≡ two .to = cc in
+        absurd (below-apart (relationOf s one) (relationOf s two) (named v l) (λ i. relation (kind i) (nodeKeyAt s (from i)) (nodeKeyAt s (to i))))
+    go (higher u w x) =
+        let a = ends v (omega arith) in
+        let b = ends (v + 1) l in
+        absurd (true≢false (sym (lower-named s n up two one (b .0) (a .0) (b .1) (a .1) u) ∙ below-asym (relationOf s one) (relationOf s two) (named v l)))
 
 module _ (s : List ℕ) (w : Accepted s) where
   pub nodes-up : RowsRise (λ i. nodeRow s i .key) (headerOf s .nodes)

@@ -3,6 +3,7 @@
 use join::Joined;
 use libc::STDIN_FILENO;
 use libc::STDOUT_FILENO;
+use listing::Listing;
 use opened::Which;
 use question::Answer;
 use question::Question;
@@ -12,9 +13,9 @@ ghost use Prim.Native.Nat.{_*_, _≤_};
 ghost use lib.ListN.{length, replicate};
 
 // The longest payload in bytes, and the longest output in words.
-const MAX_PAYLOAD: usize = 80000;
+const MAX_PAYLOAD: usize = 160000;
 
-const MAX_OUTPUT: usize = 20000;
+const MAX_OUTPUT: usize = 40000;
 
 // The words of a request that this program looks at: the operation, its numbers in order, and the lengths and the fill.
 struct Request {
@@ -191,9 +192,35 @@ fn joined(j: Joined) -> Reply {
     }
 }
 
+// The reply of reading or writing a listing. A line's number in a payload fits a word.
+fn listed(a: Listing) -> Reply {
+    Reply {
+        number: a.number,
+        sheet: a.sheet,
+        row: (a.row % 4294967296) as u32,
+        value: 0,
+        count: (a.count % 4294967296) as u32,
+        extra: 0,
+        further: 0,
+    }
+}
+
+// Operation 31: the text's bytes, four to a word of the output.
+fn write_text(sheet: &[u32], out: &mut [u32]) -> Listing
+    requires { ⌜ length (now out) ≤ 40000 ⌝ }
+{
+    let mut bytes = [0u8; MAX_PAYLOAD];
+    files::encode(out, &mut bytes);
+    let n = 4 * out.len();
+    let room = &mut bytes[0..n];
+    let a = listing::write_listing(sheet, room);
+    files::decode(room, out);
+    a
+}
+
 // Operation 23: the path's bytes, four to a word of the output.
 fn witness_file(q: Request, file: &[u8], out: &mut [u32]) -> Answer
-    requires { ⌜ length (now out) ≤ 20000 ⌝ }
+    requires { ⌜ length (now out) ≤ 40000 ⌝ }
 {
     let mut bytes = [0u8; MAX_PAYLOAD];
     files::encode(out, &mut bytes);
@@ -206,7 +233,7 @@ fn witness_file(q: Request, file: &[u8], out: &mut [u32]) -> Answer
 
 // Operations 21 to 23 by the counter's entries, on the bytes of their payload.
 fn ask_file(q: Request, file: &[u8], out: &mut [u32]) -> Answer
-    requires { ⌜ length (now out) ≤ 20000 ⌝ }
+    requires { ⌜ length (now out) ≤ 40000 ⌝ }
 {
     let operation = q.operation;
     match operation {
@@ -224,7 +251,7 @@ fn answer<'a>(
     second: &'a [u32],
     out: &mut [u32],
 ) -> Reply
-    requires { ⌜ length (now out) ≤ 20000 ⌝ }
+    requires { ⌜ length (now out) ≤ 40000 ⌝ }
 {
     let operation = q.operation;
     if (1 <= operation) & (operation <= 4) {
@@ -251,6 +278,8 @@ fn answer<'a>(
         15 => opened_words(2, q, first, out),
         16 => opened_words(3, q, first, out),
         20 => reply_of_refusal(files::check_bytes(file)),
+        30 => listed(listing::read_listing(file, out)),
+        31 => listed(write_text(first, out)),
         _ => reply_of_refusal(Refusal {
             number: 4294967295,
             sheet: 0,
@@ -307,7 +336,7 @@ fn respond<'a>(
     out: &mut [u32],
     bytes: &mut [u8],
 )
-    requires { ⌜ length (now out) ≤ 20000 ⌝ }
+    requires { ⌜ length (now out) ≤ 40000 ⌝ }
 {
     fill_with(out, q.fill);
     let r = answer(q, file, first, second, out);
@@ -349,7 +378,7 @@ fn decode_and_respond(
     out: &mut [u32],
     bytes: &mut [u8],
 )
-    requires { ⌜ length (now out) ≤ 20000 ⌝ }
+    requires { ⌜ length (now out) ≤ 40000 ⌝ }
 {
     let n = first.len() / 4;
     let m = second.len() / 4;
@@ -374,7 +403,7 @@ fn attend(
     out: &mut [u32],
     bytes: &mut [u8],
 ) -> bool
-    requires { ⌜ length (now out) ≤ 20000 ⌝ }
+    requires { ⌜ length (now out) ≤ 40000 ⌝ }
 {
     if !fetch(first) {
         return false;
@@ -395,7 +424,7 @@ fn serve(
     space: &mut [u32],
     bytes: &mut [u8],
 ) -> bool
-    requires { ⌜ length (now space) ≤ 20000 ⌝ }
+    requires { ⌜ length (now space) ≤ 40000 ⌝ }
 {
     let mut head = [0u8; 48];
     if !fetch(&mut head) {

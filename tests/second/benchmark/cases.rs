@@ -4,20 +4,22 @@
 use crate::benchmark::sheets::{last_category, sheet, Work};
 use crate::generate::full::Shape;
 use crate::generate::lists;
+use crate::generate::random::Random;
 use crate::model::answer::{ask_of, ANSWER, JOINT, LISTED, WITNESS};
 use crate::model::closure::witness;
-use crate::model::limits::MOST_EDGES;
+use crate::model::limits::{MOST_EDGES, MOST_WORDS, WORD};
+use crate::model::listing::{lines, typed};
 use crate::model::office::{Office, Side};
 use crate::model::sheet::bytes_of;
 use crate::model::survey::*;
-use crate::trial::operation::CHECK_WORDS;
+use crate::trial::operation::{CHECK_WORDS, READ_LISTING, WRITE_LISTING};
 use crate::trial::request::Request;
 
 /// Room for the longest list that a question can give.
 const ROOM: usize = MOST_EDGES;
 
 /// Each operation and what a reader calls it.
-pub const OPERATIONS: [(u32, &str); 11] = [
+pub const OPERATIONS: [(u32, &str); 13] = [
     (CHECK_WORDS, "check"),
     (ANSWER, "1, answer"),
     (JOINT, "2, joint answer"),
@@ -29,6 +31,8 @@ pub const OPERATIONS: [(u32, &str); 11] = [
     (BOTH, "8, least Both"),
     (TWO_DEEDS, "9, least pair"),
     (REDUNDANT, "10, redundant edges"),
+    (READ_LISTING, "a listing read"),
+    (WRITE_LISTING, "a listing written"),
 ];
 
 pub fn work_of(operation: u32) -> Work {
@@ -50,7 +54,24 @@ pub fn request(operation: u32, shape: Shape) -> Request {
         LISTED => longest_path(&words, &numbers),
         _ => Vec::new(),
     };
-    Request { operation, numbers, first: bytes_of(&words), second, out_len: ROOM, fill: 0 }
+    let first = match operation {
+        READ_LISTING => shuffled(&words),
+        _ => bytes_of(&words),
+    };
+    let out_len = match operation {
+        READ_LISTING => MOST_WORDS,
+        WRITE_LISTING => typed(&words).len().div_ceil(WORD),
+        _ => ROOM,
+    };
+    Request { operation, numbers, first, second, out_len, fill: 0 }
+}
+
+/// The sheet's lines in random order, the same in every run.
+fn shuffled(words: &[u32]) -> Vec<u8> {
+    let text = typed(words);
+    let mut all: Vec<&[u8]> = lines(&text).collect();
+    Random::for_case(2026, 1).shuffle(&mut all);
+    all.concat()
 }
 
 /// Office 1 or rule 1; then the first person, deed and folio, or what else the
@@ -71,8 +92,8 @@ fn longest_path(words: &[u32], numbers: &[u32]) -> Vec<u8> {
     bytes_of(&lists::words(&path.expect("the line leads from end to end")))
 }
 
-/// The same request on a sheet whose form is wrong: it is read, taken for words and
-/// replied to in the same way, and refused at its first word.
+/// The same request on a sheet whose form is wrong, or a text whose first byte is: it
+/// is read, taken for words and replied to in the same way, and refused at once.
 pub fn bare(request: &Request) -> Request {
     let mut bare = request.clone();
     bare.first[0] = 0;

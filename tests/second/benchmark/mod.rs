@@ -14,6 +14,7 @@ use crate::generate::full::{Shape, SHAPES};
 use crate::run::options::Options;
 use crate::run::tally::Tally;
 use crate::trial::expect::expect;
+use crate::trial::operation::WRITE_LISTING;
 use crate::trial::request::{compare, Expected, Request};
 use crate::trial::talk::Talk;
 
@@ -67,7 +68,7 @@ fn figure(
     let expected = expect(&request);
     let name = format!("operation {operation} on {shape:?}");
     Ok(Figure {
-        reply: in_short(&expected),
+        reply: in_short(operation, &expected),
         whole: asked(talk, tally, &name, &request, &expected)?,
         bare: asked(talk, tally, &format!("{name}, refused at once"), &bare, &expect(&bare))?,
         judged: judged(&request)?,
@@ -100,11 +101,12 @@ fn judged(request: &Request) -> Result<Duration, String> {
     })
 }
 
-fn in_short(expected: &Expected) -> String {
+fn in_short(operation: u32, expected: &Expected) -> String {
     let [number, _, _, value, count, ..] = expected.reply;
     match (number, value, count) {
         (0, 0, 0) => "accepted".to_string(),
         (0, 0, 1) => "1 word".to_string(),
+        (0, 0, count) if operation == WRITE_LISTING => format!("{count} bytes"),
         (0, 0, count) => format!("{count} words"),
         (0, value, 0) => format!("value {value}"),
         (0, value, count) => format!("value {value}, count {count}"),

@@ -1,14 +1,16 @@
 //! The cases that are put to the trial program, numbered from 0. A plan has the
-//! checks and five series, one for each kind of operation; a case follows from the
+//! checks and six series, one for each kind of operation; a case follows from the
 //! seed and its number, and carries what is expected of it.
 
 pub mod checks;
 pub mod joins;
 pub mod large;
+pub mod listings;
 pub mod lookups;
 pub mod plan;
 pub mod questions;
 pub mod series;
 pub mod surveys;
 pub mod takings;
+pub mod tours;
 pub mod ways;

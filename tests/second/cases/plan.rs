@@ -1,11 +1,12 @@
 //! What is put to the trial, case by case. A case of a check follows from the
 //! seed and its number alone; the questions come after the checks, 5 to 10 after
 //! 1 to 4, then the lookup, then joining and taking out, then the other ways to
-//! questions 1 to 3, so their numbers follow from how many there are before them.
+//! questions 1 to 3, then the listings, so their numbers follow from how many there
+//! are before them.
 
 use crate::cases::checks::Checks;
 use crate::cases::series::{Made, Series};
-use crate::cases::{joins, lookups, questions, surveys, ways};
+use crate::cases::{joins, listings, lookups, questions, surveys, ways};
 use crate::goals;
 use crate::goals::coverage::{self, Cell};
 use crate::trial::expect::expect;
@@ -42,8 +43,8 @@ pub struct Case {
 }
 
 /// How many random cases there are: of the checks, of questions 1 to 4, of 5 to
-/// 10, of the lookup, of joining and taking out, and of the other ways to
-/// questions 1 to 3.
+/// 10, of the lookup, of joining and taking out, of the other ways to questions 1
+/// to 3, and of the listings.
 #[derive(Clone, Copy, Default)]
 pub struct Counts {
     pub checks: usize,
@@ -52,28 +53,37 @@ pub struct Counts {
     pub lookups: usize,
     pub joins: usize,
     pub ways: usize,
+    pub listings: usize,
 }
 
 impl Counts {
+    /// So many of everything but the checks.
+    pub fn with_others(self, each: usize) -> Counts {
+        let [questions, surveys, lookups, joins, ways, listings] = [each; 6];
+        Counts { checks: self.checks, questions, surveys, lookups, joins, ways, listings }
+    }
+
     /// At least so many in all, with shares that give each operation some, and the
     /// slower ones fewer.
     pub fn of_long_run(total: usize) -> Counts {
         let share = |percent: usize| (total * percent).div_ceil(100);
         Counts {
-            checks: share(14),
-            questions: share(22),
-            surveys: share(26),
-            lookups: share(6),
-            joins: share(12),
-            ways: share(20),
+            checks: share(12),
+            questions: share(20),
+            surveys: share(22),
+            lookups: share(5),
+            joins: share(11),
+            ways: share(18),
+            listings: share(12),
         }
     }
 }
 
 pub struct Plan {
     checks: Checks,
-    /// Questions 1 to 4, 5 to 10, the lookup, joining and taking out, the other ways.
-    series: [Series; 5],
+    /// Questions 1 to 4, 5 to 10, the lookup, joining and taking out, the other ways,
+    /// the listings.
+    series: [Series; 6],
 }
 
 impl Plan {
@@ -86,6 +96,7 @@ impl Plan {
                 lookups::series(seed, counts.lookups),
                 joins::series(seed, counts.joins),
                 ways::series(seed, counts.ways),
+                listings::series(seed, counts.listings),
             ],
         }
     }
@@ -113,6 +124,10 @@ impl Plan {
 
     pub fn before_ways(&self) -> usize {
         self.before(4)
+    }
+
+    pub fn before_listings(&self) -> usize {
+        self.before(5)
     }
 
     pub fn len(&self) -> usize {

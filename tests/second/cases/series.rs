@@ -4,6 +4,7 @@
 
 use crate::generate::inquiry::Inquiry;
 use crate::generate::random::Random;
+use crate::model::sheet::bytes_of;
 use crate::named::book::Asked;
 use crate::trial::expect::expect;
 use crate::trial::request::{Expected, Request};
@@ -66,7 +67,8 @@ fn named_case(random: &mut Random, asked: &Asked) -> Made {
 
 fn disagreement(asked: &Asked, expected: &Expected) -> Option<String> {
     let (reply, written) = asked.says.reply();
-    let agreed = expected.reply[..7] == reply && expected.output.starts_with(&written);
+    let output = bytes_of(&expected.output);
+    let agreed = expected.reply[..7] == reply && output.starts_with(&written);
     let why = || format!("the document says {:?}, this program {:?}", asked.says, expected.reply);
     (!agreed).then(why)
 }

@@ -101,9 +101,9 @@ pub const LENGTHS: [(&str, Length); 21] = [
     ("1 byte above the most", Exactly(MOST_BYTES + 1)),
     ("4 bytes above the most", Exactly(MOST_BYTES + 4)),
     ("8 bytes above the most", Exactly(MOST_BYTES + 8)),
-    ("79996 bytes", Exactly(MOST_PAYLOAD - 4)),
-    ("79999 bytes", Exactly(MOST_PAYLOAD - 1)),
-    ("80000 bytes", Exactly(MOST_PAYLOAD)),
+    ("4 bytes under the longest payload", Exactly(MOST_PAYLOAD - 4)),
+    ("1 byte under the longest payload", Exactly(MOST_PAYLOAD - 1)),
+    ("the longest payload", Exactly(MOST_PAYLOAD)),
 ];
 
 /// What is added is zeros or anything.

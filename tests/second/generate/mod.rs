@@ -1,6 +1,7 @@
 //! Sheets and what is asked of them, drawn by chance: valid sheets of many shapes,
 //! full ones, pairs that have something in common, sheets damaged on purpose or
-//! spoiled without aim, lists that are paths or nearly. What each of them is worth
+//! spoiled without aim, lists that are paths or nearly, and texts that are listings
+//! or nearly. What each of them is worth
 //! is for the model to say.
 
 pub mod cast;
@@ -19,5 +20,8 @@ pub mod pairs;
 pub mod random;
 pub mod scene;
 pub mod scramble;
+pub mod slips;
+pub mod texts;
 pub mod throng;
+pub mod typing;
 pub mod unions;

@@ -5,6 +5,8 @@
 pub mod contents;
 pub mod coverage;
 pub mod joins;
+pub mod lines;
+pub mod listings;
 pub mod lookups;
 pub mod questions;
 pub mod redundant;
@@ -17,7 +19,9 @@ use std::collections::BTreeMap;
 
 use crate::model::answer::ANSWER;
 use crate::model::survey::is_survey;
-use crate::trial::operation::{called, operations, way_of, JOIN, LOOKUP, TAKE_OUT};
+use crate::trial::operation::{
+    called, operations, way_of, JOIN, LOOKUP, READ_LISTING, TAKE_OUT, WRITE_LISTING,
+};
 use crate::trial::request::{Expected, Request};
 use crate::trial::scope::Scope;
 
@@ -28,6 +32,8 @@ pub fn needed() -> Vec<String> {
     goals.extend(of_operation(JOIN, joins::needed()));
     goals.extend(of_operation(TAKE_OUT, takings::needed()));
     goals.extend(ways::needed());
+    goals.extend(of_operation(READ_LISTING, listings::needed_reading()));
+    goals.extend(of_operation(WRITE_LISTING, listings::needed_writing()));
     goals
 }
 
@@ -39,7 +45,7 @@ fn of_operation(operation: u32, goals: Vec<String>) -> Vec<String> {
 /// question or operation.
 pub fn needed_in(scope: &Scope) -> Vec<String> {
     let of_scope = |goal: &String| {
-        let all = (ANSWER..=TAKE_OUT).chain(operations());
+        let all = (ANSWER..=TAKE_OUT).chain(operations()).chain([READ_LISTING, WRITE_LISTING]);
         let mut own = all.filter(|&operation| scope.has(operation));
         own.any(|operation| goal.starts_with(&format!("{}: ", called(operation))))
     };
@@ -56,6 +62,8 @@ pub fn met(request: &Request, expected: &Expected) -> Vec<String> {
         LOOKUP => return of_operation(operation, lookups::met(request, expected)),
         JOIN => return of_operation(operation, joins::met(request, expected)),
         TAKE_OUT => return of_operation(operation, takings::met(request, expected)),
+        READ_LISTING => return of_operation(operation, listings::met_reading(request, expected)),
+        WRITE_LISTING => return of_operation(operation, listings::met_writing(request, expected)),
         _ => {}
     }
     match way_of(operation) {

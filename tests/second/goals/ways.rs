@@ -16,7 +16,7 @@ const FILES: [&str; 10] = [
     "33, shorter than a header",
     "33, one byte above the most",
     "33, one word above the most",
-    "33, 80000 bytes",
+    "33, the longest payload",
     "33, though its words are a sheet",
     "33, and its words are none",
     "1, no bytes",

@@ -4,10 +4,13 @@
 
 pub mod join_refusals;
 pub mod joins;
+pub mod lines;
+pub mod listings;
 pub mod lookups;
 pub mod redundant;
 pub mod surveys;
 pub mod takings;
+pub mod typings;
 pub mod ways;
 
 use crate::model::answer::{Answer, Refusal};

@@ -1,7 +1,7 @@
 //! What a sheet is and what it means, from the documents alone: the independent
 //! program that everything else here asks. It reads and judges words and bytes,
-//! answers the ten questions, looks up, joins and takes out. Nothing of it knows
-//! the trial program, or chance.
+//! answers the ten questions, looks up, joins and takes out, and reads and writes
+//! listings. Nothing of it knows the trial program, or chance.
 
 pub mod answer;
 pub mod bits;
@@ -11,6 +11,7 @@ pub mod counter;
 pub mod join;
 pub mod judge;
 pub mod limits;
+pub mod listing;
 pub mod lookup;
 pub mod marks;
 pub mod office;

@@ -1,12 +1,12 @@
-//! A book of named questions, lookups, joins and takings out: what each asks, and
-//! literally what the document says of it.
+//! A book of named questions, lookups, joins, takings out and listings: what each
+//! asks, and literally what the document says of it.
 
 use crate::generate::inquiry::Inquiry;
 use crate::model::answer::{ANSWER, JOINT, LISTED, WITNESS};
 use crate::model::limits::WORD;
 use crate::model::lookup::Wanted;
 use crate::model::sheet::*;
-use crate::trial::operation::{called, Way, JOIN, LOOKUP, TAKE_OUT};
+use crate::trial::operation::{called, Way, JOIN, LOOKUP, READ_LISTING, TAKE_OUT, WRITE_LISTING};
 
 #[derive(Clone, Debug)]
 pub enum Says {
@@ -23,22 +23,26 @@ pub enum Says {
     Part(Row, usize),
     /// the joint sheet, and how many nodes and edges are shared
     Joined(Vec<u32>, [u32; 2]),
+    /// a listing
+    Typed(String),
 }
 
 impl Says {
-    /// The first seven words of the reply, and what is written.
-    pub fn reply(&self) -> ([u32; 7], Vec<u32>) {
+    /// The first seven words of the reply, and the bytes that are written.
+    pub fn reply(&self) -> ([u32; 7], Vec<u8>) {
+        let counted = |count: usize| [0, 0, 0, 0, count as u32, 0, 0];
         match self {
             Says::Refused(number, sheet, row) => ([*number, *sheet, *row, 0, 0, 0, 0], Vec::new()),
             Says::Value(value) => ([0, 0, 0, *value, 0, 0, 0], Vec::new()),
             Says::Joint(value, office) => ([0, 0, 0, *value, *office, 0, 0], Vec::new()),
-            Says::Part(row, fits) => ([0, 0, 0, 0, row.len() as u32, 0, 0], row[..*fits].to_vec()),
+            Says::Part(row, fits) => (counted(row.len()), bytes_of(&row[..*fits])),
             Says::Joined(words, [nodes, edges]) => {
                 let joint = node_count(words) as u32;
-                ([0, 0, 0, joint, words.len() as u32, *nodes, *edges], words.clone())
+                ([0, 0, 0, joint, words.len() as u32, *nodes, *edges], bytes_of(words))
             }
-            Says::Written(words) => ([0, 0, 0, 0, words.len() as u32, 0, 0], words.clone()),
-            Says::Spelt(words) => ([0, 0, 0, 0, (WORD * words.len()) as u32, 0, 0], words.clone()),
+            Says::Written(words) => (counted(words.len()), bytes_of(words)),
+            Says::Spelt(words) => (counted(WORD * words.len()), bytes_of(words)),
+            Says::Typed(text) => (counted(text.len()), text.as_bytes().to_vec()),
         }
     }
 }
@@ -269,5 +273,58 @@ impl Book {
         let asked = [TAKE_OUT, office];
         self.of_two(&format!("{name}, without room"), &asked, [sheet, &[]], 0, says.clone());
         self.of_two(&format!("{name}, with room"), &asked, [sheet, &[]], 80, says);
+    }
+
+    fn lent(&mut self, name: &str, operation: u32, first: &[u8], room: usize, says: Says) {
+        self.file(name, operation, first.to_vec(), &[], says);
+        if let Some(asked) = self.asked.last_mut() {
+            asked.room = room;
+        }
+    }
+
+    /// The sheet that a text becomes, with just enough room, with more and with too
+    /// little.
+    pub fn read(&mut self, name: &str, text: &[u8], sheet: &Sheet) {
+        let (words, length) = (sheet.words(), sheet.words().len());
+        let mut add = |room: usize, how: &str, says: Says| {
+            self.lent(&format!("{name}, {how}"), READ_LISTING, text, room, says);
+        };
+        let read = Says::Written(words);
+        add(length, "exactly enough room", read.clone());
+        add(length + 1, "one word to spare", read);
+        add(length - 1, "one word short", Says::Refused(25, 0, 0));
+        add(0, "no room", Says::Refused(25, 0, 0));
+    }
+
+    /// number and line; whatever the room
+    pub fn not_read(&mut self, name: &str, text: &[u8], says: (u32, u32)) {
+        let says = Says::Refused(says.0, 0, says.1);
+        let without = format!("{name}, without room");
+        self.lent(&without, READ_LISTING, text, 0, says.clone());
+        self.lent(&format!("{name}, with room"), READ_LISTING, text, 80, says);
+    }
+
+    /// The text of a sheet, with just as many words as it needs, with more and with
+    /// too few.
+    pub fn typed(&mut self, name: &str, sheet: &Sheet, text: &str) {
+        let (words, length) = (bytes_of(&sheet.words()), text.len().div_ceil(WORD));
+        let mut add = |room: usize, how: &str, says: Says| {
+            self.lent(&format!("{name} written, {how}"), WRITE_LISTING, &words, room, says);
+        };
+        let typed = Says::Typed(text.to_string());
+        add(length, "just enough room", typed.clone());
+        add(length + 1, "one word to spare", typed);
+        if length > 0 {
+            add(length - 1, "one word short", Says::Refused(25, 0, 0));
+            add(0, "no room", Says::Refused(25, 0, 0));
+        }
+    }
+
+    /// number, sheet, row; whatever the room
+    pub fn not_typed(&mut self, name: &str, words: &[u32], says: (u32, u32, u32)) {
+        let (words, says) = (bytes_of(words), Says::Refused(says.0, says.1, says.2));
+        let without = format!("{name} not written, without room");
+        self.lent(&without, WRITE_LISTING, &words, 0, says.clone());
+        self.lent(&format!("{name} not written, with room"), WRITE_LISTING, &words, 80, says);
     }
 }

@@ -298,5 +298,6 @@ fn unknown_operations(list: &mut List) {
     let lowest = NO_OPERATIONS[0];
     list.add(&format!("operation {lowest} on nothing"), lowest, Vec::new(), (UNKNOWN, 0));
     let most = vec![255; MOST_PAYLOAD];
-    list.add("operation 4294967295 on 80000 bytes", u32::MAX, most, (UNKNOWN, 0));
+    let name = format!("operation 4294967295 on {MOST_PAYLOAD} bytes");
+    list.add(&name, u32::MAX, most, (UNKNOWN, 0));
 }

@@ -6,6 +6,8 @@ pub mod book;
 pub mod checks;
 pub mod join_refusals;
 pub mod joins;
+pub mod listing_refusals;
+pub mod listings;
 pub mod lookups;
 pub mod paths;
 pub mod question_refusals;

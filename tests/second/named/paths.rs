@@ -257,8 +257,8 @@ fn lists(book: &mut Book) {
     }
     let none = [1, 0, 1, 0, 1, 0];
     book.listed("a path without a category", &sheet, numbers, &none, false);
-    book.listed("20000 words of 0", &sheet, numbers, &[0; MOST_LIST], false);
-    book.listed("20000 words of 1", &sheet, numbers, &[1; MOST_LIST], false);
+    book.listed(&format!("{MOST_LIST} words of 0"), &sheet, numbers, &[0; MOST_LIST], false);
+    book.listed(&format!("{MOST_LIST} words of 1"), &sheet, numbers, &[1; MOST_LIST], false);
 }
 
 /// A path, but not of what is asked: each of the three is looked at.

@@ -9,6 +9,7 @@ pub const USAGE: &str = "usage:
   second --long N [--seed N] [--only OPERATIONS] [--case K] -- COMMAND ARGS..
   second --benchmark [--only OPERATIONS] -- COMMAND ARGS..
   second --seeds FOLDER [--seed N]
+  second --texts FOLDER [--seed N]
   second --self-test";
 
 const COUNTS: Counts = Counts {
@@ -18,6 +19,7 @@ const COUNTS: Counts = Counts {
     lookups: 2_000,
     joins: 10_000,
     ways: 4_200,
+    listings: 27_000,
 };
 
 pub struct Options {
@@ -32,8 +34,9 @@ pub struct Options {
     pub patience: u64,
     /// So many generated cases at least; how far it is goes to standard error.
     pub long: bool,
-    /// A folder for what a fuzzer begins with.
+    /// A folder for what a fuzzer begins with: files, or texts of listings.
     pub seeds: Option<String>,
+    pub texts: Option<String>,
     pub self_test: bool,
     /// Times instead of comparisons.
     pub benchmark: bool,
@@ -50,6 +53,7 @@ impl Options {
             patience: 300,
             long: false,
             seeds: None,
+            texts: None,
             self_test: false,
             benchmark: false,
             command: Vec::new(),
@@ -60,9 +64,7 @@ impl Options {
                 "--cases" => options.counts.checks = number(&word, words.next())?,
                 "--questions" => {
                     let each = number(&word, words.next())?;
-                    let checks = options.counts.checks;
-                    let [questions, surveys, lookups, joins, ways] = [each; 5];
-                    options.counts = Counts { checks, questions, surveys, lookups, joins, ways };
+                    options.counts = options.counts.with_others(each);
                 }
                 "--long" => {
                     options.counts = Counts::of_long_run(number(&word, words.next())?);
@@ -72,13 +74,15 @@ impl Options {
                 "--case" => options.case = Some(number(&word, words.next())?),
                 "--patience" => options.patience = number(&word, words.next())?,
                 "--seeds" => options.seeds = words.next(),
+                "--texts" => options.texts = words.next(),
                 "--self-test" => options.self_test = true,
                 "--benchmark" => options.benchmark = true,
                 "--" => options.command = words.by_ref().collect(),
                 _ => return Err(format!("not understood: {word}")),
             }
         }
-        if options.command.is_empty() && !options.self_test && options.seeds.is_none() {
+        let seeds = options.seeds.is_some() || options.texts.is_some();
+        if options.command.is_empty() && !options.self_test && !seeds {
             return Err("no command that starts the trial program".to_string());
         }
         Ok(options)

@@ -7,9 +7,10 @@ use crate::cases::plan::{About, Case, Plan};
 use crate::goals::coverage::{needed, Coverage};
 use crate::goals::{self, Goals};
 use crate::model::limits::{HEADER, NODE_WIDTH};
-use crate::model::sheet::words_of;
+use crate::model::listing::lines;
+use crate::model::sheet::{bytes_of, words_of};
 use crate::run::tally::Tally;
-use crate::trial::operation::UNKNOWN;
+use crate::trial::operation::{READ_LISTING, UNKNOWN, WRITE_LISTING};
 use crate::trial::scope::Scope;
 
 const MOST_SHOWN: usize = 10;
@@ -132,7 +133,7 @@ impl Report {
             println!("  {operation}: {count}");
         }
         println!("cases by expected outcome:");
-        for number in (0..=17).chain(20..=33).chain([UNKNOWN]) {
+        for number in (0..=17).chain(20..=33).chain(40..=43).chain([UNKNOWN]) {
             let name = if number == UNKNOWN { "unknown".to_string() } else { number.to_string() };
             println!("  {name}: {}", self.outcomes.get(&number).unwrap_or(&0));
         }
@@ -160,18 +161,42 @@ fn print_request(case: &Case, most_rows: usize) {
     println!("    expected reply {:?}, then {} words", expected.reply, expected.output.len());
     print_words("second payload", &words_of(&request.second), most_rows);
     print_words("expected output", &expected.output, most_rows);
-    let words = words_of(&request.first);
-    let (header, rows) = words.split_at(words.len().min(HEADER));
-    println!("    header {header:?}");
-    for (at, row) in rows.chunks(NODE_WIDTH).enumerate().take(most_rows) {
-        println!("    from word {}: {row:?}", HEADER + NODE_WIDTH * at);
-    }
-    if rows.len().div_ceil(NODE_WIDTH) > most_rows {
+    let more = match request.operation {
+        READ_LISTING => print_text(&request.first, expected.reply[2] as usize, most_rows),
+        _ => print_sheet(&request.first, most_rows),
+    };
+    if more {
         println!(
             "    and more; --case {} with the same seed and counts shows all",
             case.about.number
         );
     }
+    if request.operation == WRITE_LISTING {
+        let text = &bytes_of(&expected.output)[..expected.reply[4] as usize];
+        println!("    expected text:");
+        print_text(text, 0, most_rows);
+    }
+}
+
+/// So many rows of it; tells whether there are more.
+fn print_sheet(bytes: &[u8], most_rows: usize) -> bool {
+    let words = words_of(bytes);
+    let (header, rows) = words.split_at(words.len().min(HEADER));
+    println!("    header {header:?}");
+    for (at, row) in rows.chunks(NODE_WIDTH).enumerate().take(most_rows) {
+        println!("    from word {}: {row:?}", HEADER + NODE_WIDTH * at);
+    }
+    rows.len().div_ceil(NODE_WIDTH) > most_rows
+}
+
+/// So many lines of it, those about this one; tells whether there are more.
+fn print_text(text: &[u8], line: usize, most_lines: usize) -> bool {
+    let lines: Vec<&[u8]> = lines(text).collect();
+    let from = if lines.len() > most_lines { line.saturating_sub(most_lines / 2) } else { 0 };
+    for (at, line) in lines.iter().enumerate().skip(from).take(most_lines) {
+        println!("    line {at}: {}", line.escape_ascii());
+    }
+    lines.len() > most_lines
 }
 
 fn print_words(name: &str, words: &[u32], most_rows: usize) {

@@ -9,11 +9,13 @@ use crate::generate::full::{Shape, SHAPES};
 use crate::generate::longest::MOST_CATEGORIES;
 use crate::model::answer::{ANSWER, JOINT, LISTED, WITNESS};
 use crate::model::judge::{judge_words, ACCEPTED};
-use crate::model::limits::{MOST_EDGES, MOST_NODES};
-use crate::model::sheet::{is_full, words_of};
+use crate::model::limits::{MOST_EDGES, MOST_NODES, MOST_WORDS};
+use crate::model::listing::lines;
+use crate::model::sheet::{bytes_of, is_full, words_of};
 use crate::model::survey::*;
 use crate::run::tally::Tally;
 use crate::trial::expect::expect;
+use crate::trial::operation::{READ_LISTING, WRITE_LISTING};
 
 pub fn run(tally: &mut Tally) {
     for (operation, title) in OPERATIONS {
@@ -21,16 +23,32 @@ pub fn run(tally: &mut Tally) {
             requests(tally, operation, shape, &format!("benchmark of {title}, {shape:?}"));
         }
     }
+    for shape in SHAPES {
+        random_order(tally, shape);
+    }
     times(tally);
+}
+
+/// The lines that are read are not those that are written, one by one.
+fn random_order(tally: &mut Tally, shape: Shape) {
+    let typed = request(READ_LISTING, shape).first;
+    let text = expect(&request(WRITE_LISTING, shape));
+    let sorted = &bytes_of(&text.output)[..text.reply[4] as usize];
+    let moved = lines(&typed).zip(lines(sorted)).filter(|(one, other)| one != other).count();
+    tally.test(&format!("benchmark of listings, {shape:?}: random order"), moved > 2_400);
 }
 
 fn requests(tally: &mut Tally, operation: u32, shape: Shape, name: &str) {
     let request = request(operation, shape);
-    let words = words_of(&request.first);
+    let words = match operation {
+        READ_LISTING => expect(&request).output,
+        _ => words_of(&request.first),
+    };
     tally.test(&format!("{name}: the sheet is valid"), judge_words(&words) == ACCEPTED);
     tally.test(&format!("{name}: the sheet is full"), is_full(&words));
     let bare = expect(&bare(&request));
-    tally.test(&format!("{name}: a wrong form is refused"), bare.reply[..3] == [2, 1, 0]);
+    let at_once = if operation == READ_LISTING { [40, 0, 0] } else { [2, 1, 0] };
+    tally.test(&format!("{name}: a wrong start is refused"), bare.reply[..3] == at_once);
     let said = expect(&request).reply;
     let (number, value, count) = wanted(operation, shape);
     let same = said[..5] == [number, 0, 0, value, count];
@@ -54,6 +72,9 @@ fn wanted(operation: u32, shape: Shape) -> (u32, u32, u32) {
         NOT_GRANTED => (0, 0, 1),
         BOTH | TWO_DEEDS => (26, 0, 0),
         REDUNDANT => (0, 0, redundant(shape)),
+        READ_LISTING => (0, 0, MOST_WORDS as u32),
+        // The same lines in another order.
+        WRITE_LISTING => (0, 0, request(READ_LISTING, shape).first.len() as u32),
         _ => (0, 0, 0),
     }
 }

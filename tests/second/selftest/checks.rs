@@ -203,9 +203,9 @@ fn tallies(tally: &mut Tally) {
 fn repeatable_cases(tally: &mut Tally) {
     repeatable(tally, "case", Plan::before_questions, |checks| Counts { checks, ..NONE });
     for total in [0, 1, 99, 100, 101, 1_000_000] {
-        let Counts { checks, questions, surveys, lookups, joins, ways } =
+        let Counts { checks, questions, surveys, lookups, joins, ways, listings } =
             Counts::of_long_run(total);
-        let all = [checks, questions, surveys, lookups, joins, ways];
+        let all = [checks, questions, surveys, lookups, joins, ways, listings];
         let enough =
             all.iter().sum::<usize>() >= total && all.iter().all(|&some| some > 0 || total == 0);
         tally.test(&format!("a long run of {total}"), enough);

@@ -7,6 +7,7 @@ pub mod benchmark;
 pub mod checks;
 pub mod counted;
 pub mod joins;
+pub mod listings;
 pub mod lookups;
 pub mod misread;
 pub mod named;
@@ -29,6 +30,7 @@ pub fn run() -> Tally {
     lookups::run(&mut tally);
     joins::run(&mut tally);
     ways::run(&mut tally);
+    listings::run(&mut tally);
     benchmark::run(&mut tally);
     tally
 }

@@ -105,15 +105,19 @@ fn lengths(tally: &mut Tally) {
 }
 
 fn repeatable_ways(tally: &mut Tally) {
-    repeatable(tally, "question another way", Plan::len, |ways| Counts { ways, ..NONE });
+    repeatable(tally, "question another way", Plan::before_listings, |ways| Counts {
+        ways,
+        ..NONE
+    });
     let plan = Plan::new(5, Counts { ways: KINDS, ..NONE });
-    let asked = |back: usize| plan.case(plan.len() - back).about.operation;
+    let asked = |back: usize| plan.case(plan.before_listings() - back).about.operation;
     let all: BTreeSet<u32> = (1..=KINDS).map(asked).collect();
     tally.test("six operations of other ways in turn", all.into_iter().eq(operations()));
 }
 
 fn distinguished(tally: &mut Tally) {
     let plan = Plan::new(1, Counts { ways: CASES, ..NONE });
-    let cases: Vec<Case> = (plan.before_ways()..plan.len()).map(|at| plan.case(at)).collect();
+    let cases: Vec<Case> =
+        (plan.before_ways()..plan.before_listings()).map(|at| plan.case(at)).collect();
     told_apart(tally, &cases, WRONG.iter(), ENOUGH);
 }

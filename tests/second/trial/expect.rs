@@ -6,11 +6,13 @@ use crate::model::counter::by_counter;
 use crate::model::join::join;
 use crate::model::judge::{judge_bytes, judge_words, Verdict};
 use crate::model::limits::WORD;
+use crate::model::listing;
 use crate::model::lookup::{lookup, Wanted};
 use crate::model::sheet::{words_of, Row};
 use crate::model::take_out::take_out;
 use crate::trial::operation::{
-    way_of, Way, CHECK_BYTES, CHECK_WORDS, JOIN, LOOKUP, TAKE_OUT, UNKNOWN,
+    way_of, Way, CHECK_BYTES, CHECK_WORDS, JOIN, LOOKUP, READ_LISTING, TAKE_OUT, UNKNOWN,
+    WRITE_LISTING,
 };
 use crate::trial::request::{Expected, Request};
 
@@ -29,6 +31,11 @@ pub fn expect(request: &Request) -> Expected {
         }
         JOIN => told(request, join(&first, &second, room)),
         TAKE_OUT => told(request, take_out(&first, numbers[0], room)),
+        READ_LISTING => told(request, listing::read(&request.first, room)),
+        WRITE_LISTING => {
+            let text = listing::write(&first, WORD * room);
+            told(request, text.map(|text| laid(&text, request.fill)))
+        }
         question if is_question(question) => {
             told(request, answer(question, numbers, &first, &second, room))
         }
@@ -83,4 +90,13 @@ pub fn told(request: &Request, outcome: Result<Answer, Refusal>) -> Expected {
 pub fn part(row: &Row, room: usize) -> Answer {
     let written = row.iter().copied().take(room).collect();
     Answer { count: row.len() as u32, written, ..Answer::default() }
+}
+
+/// A text in an output of four bytes a word. What its last bytes leave of a word
+/// stays as it was filled.
+pub fn laid(text: &[u8], fill: u32) -> Answer {
+    let kept = &fill.to_le_bytes()[text.len() % WORD..];
+    let rest = if kept.len() < WORD { kept } else { &[] };
+    let written = words_of(&[text, rest].concat());
+    Answer { count: text.len() as u32, written, ..Answer::default() }
 }

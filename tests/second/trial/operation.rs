@@ -8,9 +8,11 @@ pub const LOOKUP: u32 = 11;
 pub const JOIN: u32 = 12;
 pub const TAKE_OUT: u32 = 13;
 pub const CHECK_BYTES: u32 = 20;
+pub const READ_LISTING: u32 = 30;
+pub const WRITE_LISTING: u32 = 31;
 
 /// Some that there are not.
-pub const NO_OPERATIONS: [u32; 7] = [24, 25, 26, 27, 28, 29, u32::MAX];
+pub const NO_OPERATIONS: [u32; 8] = [24, 25, 26, 27, 28, 29, 32, u32::MAX];
 
 /// What the trial program says of an operation that it does not have.
 pub const UNKNOWN: u32 = u32::MAX;
@@ -27,6 +29,7 @@ pub fn called(operation: u32) -> String {
 pub fn writes(operation: u32) -> bool {
     match way_of(operation) {
         Some((_, question)) => question == WITNESS,
+        None if matches!(operation, READ_LISTING | WRITE_LISTING) => true,
         None => (WITNESS..=TAKE_OUT).contains(&operation) && operation != LISTED,
     }
 }

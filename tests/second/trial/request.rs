@@ -7,8 +7,8 @@ use crate::model::limits::WORD;
 use crate::model::sheet::{bytes_of, words_of};
 
 /// The limits of one request, as the protocol sets them.
-pub const MOST_PAYLOAD: usize = 80_000;
-pub const MOST_OUTPUT: usize = 20_000;
+pub const MOST_PAYLOAD: usize = 160_000;
+pub const MOST_OUTPUT: usize = 40_000;
 
 const REPLY_NAMES: [&str; 8] = [
     "refusal number",

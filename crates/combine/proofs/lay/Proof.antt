@@ -5,7 +5,8 @@ use mathlib.Core.Path.{refl, ap}
 use native.Mathlib.Omega.{arith}
 use Rattle.sheet.specs.Limits.{edgePlace}
 use Rattle.sheet.proofs.Widths.{few}
-use Rattle.combine.proofs.Whole.{edge-inputs, second-room, laid-by}
+use Rattle.sheet.proofs.Tails.{second-room}
+use Rattle.combine.proofs.Whole.{edge-inputs, laid-by}
 use borrow.Author.Needs.{needs}
 use Rattle.combine.proofs.lay.Statement.{statement}
 use Rattle.combine.proofs.lay.Tie as tie

@@ -9,7 +9,7 @@ use Rattle.trial.proofs.main.Tie as tie
 
 abbrev Inv-loop : tie.InvT-loop
 Inv-loop first₀ second₀ words₀ others₀ space₀ bytes₀ turns₀ first second words others space bytes turns =
-    (length first ≡ 80000) × (length second ≡ 80000) × (length words ≡ 20000) × (length others ≡ 20000) × (length space ≡ 20000) × (length bytes ≡ 80000)
+    (length first ≡ 160000) × (length second ≡ 160000) × (length words ≡ 40000) × (length others ≡ 40000) × (length space ≡ 40000) × (length bytes ≡ 160000)
 
 abbrev μ-loop : tie.MeasureT-loop
 μ-loop first₀ second₀ words₀ others₀ space₀ bytes₀ turns₀ first second words others space bytes turns = turns

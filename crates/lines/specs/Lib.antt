@@ -1,0 +1,4 @@
+pub mod Numerals
+pub mod Nine
+pub mod Naming
+pub mod Fitting

@@ -1,0 +1,57 @@
+-- `listing::first_lacking` meets its contract. The loop's invariant: no line passed lacks an end.
+-- Assumes nothing.
+use Rattle.listing.specs.LineByLine.{lacksEnd}
+use Rattle.lines.specs.declared.Line.{Line}
+use mathlib.Core.Bool.{false}
+use Rattle.listing.proofs.Cutting.{PassedBy, through-first, through-next, more-bytes, line-tells, stands-here, stands-nowhere}
+use Rattle.listing.specs.Cut.{linesSaid, lineAt}
+use mathlib.Core.Path.{_≡_}
+use Prim.Native.Nat.{ℕ, _-_}
+use native.Mathlib.Omega.{arith}
+use Rattle.listing.proofs.first_lacking.Statement.{statement}
+use Rattle.listing.proofs.first_lacking.Tie as tie
+
+abbrev Inv-loop : tie.InvT-loop
+Inv-loop text count rows order i₀ at₀ i at = PassedBy text (λ (j : ℕ). lacksEnd (linesSaid text) count (lineAt (linesSaid text) j) ≡ false) i at
+
+abbrev μ-loop : tie.MeasureT-loop
+μ-loop text count rows order i₀ at₀ i at = count - i
+
+loop-holds : tie.Need-loop-holds Inv-loop μ-loop
+loop-holds c = through-first _ _
+
+take-line-requires : tie.Need-take-line-requires Inv-loop μ-loop
+take-line-requires c κs = more-bytes _ _ _ (c .before .loop .inv .came) (omega (arith, c .before .before .before .before .before .pre .inside))
+
+lacks-end-requires : tie.Need-lacks-end-requires Inv-loop μ-loop
+lacks-end-requires c κs = c .before .before .before .before .before .before .pre
+
+returns : tie.Need-returns Inv-loop μ-loop
+returns c = stands-here _ _ _ _ _ (c .before .before .before .before .loop .inv) (omega arith) (line-tells _ _ _ (c .before .before .before .before .loop .inv .came) _ (c .before .before .take-line .ensures) (λ (x : Line). lacksEnd (linesSaid (c .before .before .before .before .before .before .before .before .args .text .now)) (c .before .before .before .before .before .before .before .before .args .count) x) _ _ (c .before .lacks-end .ensures) (c .if1 .taken))
+
+add-i : tie.Need-add-i Inv-loop μ-loop
+add-i c = omega arith
+
+loop-less : tie.Need-loop-less Inv-loop μ-loop
+loop-less c = omega arith
+
+loop-again : tie.Need-loop-again Inv-loop μ-loop
+loop-again c = through-next _ _ _ _ (c .before .before .before .before .loop .inv) _ (c .before .before .take-line .ensures) (line-tells _ _ _ (c .before .before .before .before .loop .inv .came) _ (c .before .before .take-line .ensures) (λ (x : Line). lacksEnd (linesSaid (c .before .before .before .before .before .before .before .before .args .text .now)) (c .before .before .before .before .before .before .before .before .args .count) x) _ _ (c .before .lacks-end .ensures) (c .if1 .left))
+
+returns-2 : tie.Need-returns-2 Inv-loop μ-loop
+returns-2 c = stands-nowhere _ _ _ _ _ (c .before .loop .inv) (omega arith)
+
+pub first-lacking-spec : {M : Type 1} → statement M
+first-lacking-spec =
+    tie.close
+    (tie.spec
+    Inv-loop
+    μ-loop
+    loop-holds
+    take-line-requires
+    lacks-end-requires
+    returns
+    add-i
+    loop-less
+    loop-again
+    returns-2)

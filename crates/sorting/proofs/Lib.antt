@@ -1,0 +1,4 @@
+pub mod Numbered
+pub mod Once
+pub mod Merging
+pub mod Orders
