@@ -1,6 +1,6 @@
 -- Listings: what is refused, and what was promised to the desks.
 -- Assumes nothing.
-use Prim.Native.Nat.{ℕ}
+use Prim.Native.Nat.{ℕ, _≤_}
 use mathlib.Core.Path.{_≡_, refl, sym, ap, subst, _∙_}
 use mathlib.Core.Bool.{Bool, true, false, cond}
 use mathlib.Core.List.{List}
@@ -10,17 +10,21 @@ use lib.Seq.{take-at}
 use borrow.Author.Tests.{eqb-true, eqb-false, eq-eqb}
 use Rattle.sheet.specs.declared.Refusal.{Refusal}
 use Rattle.sheet.specs.Limits.{sheetWords}
-use Rattle.sheet.specs.Refusals.{_then_, short}
+use Rattle.sheet.specs.Refusals.{_when_otherwise_, none, refuse, _then_, short}
 use Rattle.sheet.specs.Rows.{headerOf}
-use Rattle.sheet.proofs.Refusing.{then-some-is, then-good}
+use Rattle.sheet.specs.Verdict.{verdict}
+use Rattle.sheet.proofs.Accepting.{not-refused}
+use Rattle.sheet.proofs.Refusing.{then-some-is, then-good, then-none}
+use Rattle.sheet.proofs.Writing.{short-fits}
 use Rattle.listing.specs.declared.Listing.{Listing}
 use Rattle.listing.specs.Cut.{linesSaid}
 use Rattle.listing.specs.Faults.{nodeLines, edgeLines, listingFault}
-use Rattle.listing.specs.Promises.{refusalIn, Gives, ReadsListing}
+use Rattle.listing.specs.Printed.{printed, jointSheet, printFault}
+use Rattle.listing.specs.Promises.{refusalIn, Gives, ReadsListing, WritesListing}
 use Rattle.listing.proofs.Again.{reads-again}
 use Rattle.listing.proofs.EachRow.{line-for-each-row}
 use Rattle.listing.proofs.Reordering.{order-free}
-use Rattle.demands.specs.Demands.{Keeps, InFront}
+use Rattle.demands.specs.Demands.{Keeps, InFront, Sheet}
 use Rattle.demands.specs.Listings.{Listings}
 use Rattle.demands.proofs.Keeping.{writer-keeps}
 
@@ -68,9 +72,23 @@ module _ (text out : List ℕ) (a : Listing) (out′ : List ℕ) (r : ReadsListi
   pub lines-each : a .number ≡ 0 → (headerOf (take (a .count) out′) .nodes ≡ nodeLines (linesSaid text)) × (headerOf (take (a .count) out′) .edges ≡ edgeLines (linesSaid text))
   lines-each z = let w = not-refused-then z in rw (counted-sheet z) (line-for-each-row text (r .sheet) w (r .means w))
 
+-- ---- writing
+
+-- nothing refuses an accepted sheet of one office
+one-passes : (s : List ℕ) → Sheet 1 s → printFault s ≡ none
+unfolding printFault jointSheet refuse _when_otherwise_
+one-passes s S = then-none (verdict 1 s) _ (not-refused 1 s (S .formed)) ∙ rw (S .count) refl
+
+written-whole : (s out : List ℕ) (a : Listing) (out′ : List ℕ) → Sheet 1 s → length (printed s) ≤ length out → WritesListing s out a out′ → (a .number ≡ 0) × (a .count ≡ length (printed s))
+written-whole s out a out′ S room w =
+    let told = w .writes .told ∙ then-none (printFault s) (short (length out) (length (printed s))) (one-passes s S) ∙ short-fits (length out) (length (printed s)) room in
+    let z : a .number ≡ 0 = ap (λ (r : Refusal). r .number) told in
+    (z, counted-result (printFault s) (printed s) out a out′ w z)
+
 pub listings : Listings
 listings =
     record {
+      is-written = λ s out {a} {out′} S room w. written-whole s out a out′ S room w;
       comes-back = λ s out {a} {out′} words w z room {b} {room′} r. reads-again s out a out′ w z words room b room′ r;
       any-order = λ text text′ out same {a} {b} {o} {o′} x y. order-free text text′ out same a b o o′ x y;
       line-for-each = λ text out {a} {out′} r z. lines-each text out a out′ r z;

@@ -1,22 +1,26 @@
 -- What the desks were promised of a listing (request 2026-01), of the two functions' own statements.
 -- Assumes nothing.
-use Prim.Native.Nat.{ℕ, _<_}
+use Prim.Native.Nat.{ℕ, _<_, _≤_}
 use mathlib.Core.Path.{_≡_}
 use mathlib.Core.List.{List}
-use lib.ListN.{getD, take}
+use lib.ListN.{length, getD, take}
 use Rattle.sheet.specs.Refusals.{none}
 use Rattle.sheet.specs.Rows.{headerOf}
 use Rattle.listing.specs.declared.Listing.{Listing}
 use Rattle.listing.specs.Cut.{linesSaid}
 use Rattle.listing.specs.Faults.{nodeLines, edgeLines}
+use Rattle.listing.specs.Printed.{printed}
 use Rattle.listing.specs.Promises.{Gives, ReadsListing, WritesListing}
 use Rattle.listing.specs.Reordered.{SameLines, ReadAlike}
+use Rattle.demands.specs.Demands.{Sheet}
 
 -- the words of a lent slice are of 32 bits
 abbrev pub OfWords32 : List ℕ → Type 0
 OfWords32 s = (i : ℕ) → getD s i 0 < 4294967296
 
 pub record Listings : Type 0 where
+  -- every accepted sheet of one office is written where there is room for its lines
+  pub is-written : (s out : List ℕ) {a : Listing} {out′ : List ℕ} → Sheet 1 s → length (printed s) ≤ length out → WritesListing s out a out′ → (a .number ≡ 0) × (a .count ≡ length (printed s))
   -- reading what the writer wrote gives the same sheet
   pub comes-back : (s out : List ℕ) {a : Listing} {out′ : List ℕ} → OfWords32 s → WritesListing s out a out′ → a .number ≡ 0
       → (room : List ℕ) {b : Listing} {room′ : List ℕ} → ReadsListing (take (a .count) out′) room b room′ → Gives none s room b room′

@@ -74,6 +74,18 @@ fn shuffled(words: &[u32]) -> Vec<u8> {
     all.concat()
 }
 
+/// So many lines: as many as the longest sheet has rows, one more, and far more.
+pub const OVERLONG: [usize; 4] = [2_560, 2_561, 5_000, 10_000];
+
+/// A listing of so many persons in random order, which is refused by 4 in the end.
+pub fn overlong(count: usize) -> Request {
+    let mut all: Vec<String> = (1..=count).map(|person| format!("person {person}\n")).collect();
+    Random::for_case(2026, 2).shuffle(&mut all);
+    let first = all.concat().into_bytes();
+    let operation = READ_LISTING;
+    Request { operation, numbers: [0; 6], first, second: Vec::new(), out_len: MOST_WORDS, fill: 0 }
+}
+
 /// Office 1 or rule 1; then the first person, deed and folio, or what else the
 /// question names.
 fn numbers(operation: u32, last_category: u32) -> [u32; 6] {

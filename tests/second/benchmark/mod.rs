@@ -8,13 +8,13 @@ pub mod stopwatch;
 
 use std::time::Duration;
 
-use crate::benchmark::cases::{bare, request, OPERATIONS};
-use crate::benchmark::stopwatch::{middle, milliseconds};
+use crate::benchmark::cases::{bare, overlong, request, OPERATIONS, OVERLONG};
+use crate::benchmark::stopwatch::{middle, milliseconds, once};
 use crate::generate::full::{Shape, SHAPES};
 use crate::run::options::Options;
 use crate::run::tally::Tally;
 use crate::trial::expect::expect;
-use crate::trial::operation::WRITE_LISTING;
+use crate::trial::operation::{READ_LISTING, WRITE_LISTING};
 use crate::trial::request::{compare, Expected, Request};
 use crate::trial::talk::Talk;
 
@@ -36,11 +36,31 @@ struct Line {
 
 pub fn run(options: &Options) -> Tally {
     let mut tally = Tally::default();
-    match measure_all(options, &mut tally) {
-        Ok(lines) => print(&lines),
-        Err(fault) => tally.test(&format!("the trial: {fault}"), false),
+    let measured = measure_all(options, &mut tally).map(|lines| print(&lines));
+    let measured = measured.and_then(|()| measure_overlong(options, &mut tally));
+    if let Err(fault) = measured {
+        tally.test(&format!("the trial: {fault}"), false);
     }
     tally
+}
+
+/// Texts over the limits take seconds, so each is asked twice: once to compare, and
+/// once to time.
+fn measure_overlong(options: &Options, tally: &mut Tally) -> Result<(), String> {
+    if !options.only.has(READ_LISTING) {
+        return Ok(());
+    }
+    let mut talk = Talk::open(&options.command)?;
+    println!("\n| A listing over the limits, lines | the trial program, s | the second program, ms |\n|---|---|---|");
+    for count in OVERLONG {
+        let request = overlong(count);
+        let bytes = request.bytes();
+        let differences = compare(&expect(&request), &talk.ask(&bytes, request.out_len)?);
+        tally.test(&format!("{count} lines: {}", differences.join("; ")), differences.is_empty());
+        let took = once(|| talk.ask(&bytes, request.out_len).map(drop))?;
+        println!("| {count} | {:.2} | {} |", took.as_secs_f64(), milliseconds(judged(&request)?));
+    }
+    talk.close()
 }
 
 fn measure_all(options: &Options, tally: &mut Tally) -> Result<Vec<Line>, String> {
