@@ -63,9 +63,10 @@ const Verb verbs[] = {
     {"redundant", {SHEET, OFFICE}, 0, redundant, {20},
      "the edges that others already imply",
      "Tells the redundant edges with their rows: memberships, containments, grants and bans that others already imply.\n"
+     "Any one of them can be removed, and no answer changes; then ask again, since each may be the reason for another.\n"
      "docs/RULES.md says exactly when.\n",
      "d.sheet 1",
-     "edge 1: person 11 in category 22, office 1\n"},
+     "edge 4: category 21 grants deed 32/0, office 1\n"},
     {"find", {FIRST, SECOND, TYPE_OF_NODE, IDENTITY}, 0, find, {32},
      "where an identity stands in two sheets",
      "Tells which sheet has the identity, the first where both have it, with its row and its offices. Without /VARIANT the\n"

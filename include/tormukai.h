@@ -32,7 +32,7 @@ extern "C" {
 #endif
 
 /* The library's version. */
-#define TORMUKAI_VERSION "0.3.0"
+#define TORMUKAI_VERSION "0.4.0"
 
 /* The longest sheet, in words and in bytes of its file: 6 + 4 * 512 + 4 * 2048 words. */
 #define TORMUKAI_SHEET_WORDS 10246
@@ -279,7 +279,8 @@ TormukaiAnswer tormukai_least_triple(const uint32_t *sheet, size_t sheet_length,
 TormukaiAnswer tormukai_least_holder(const uint32_t *sheet, size_t sheet_length, uint32_t office, uint32_t deed,
                                      uint32_t other, uint32_t *out, size_t out_length);
 
-/* Question 10: which edge rows are redundant at an office?
+/* Question 10: which edge rows are redundant at an office? Any one of them can be removed at that office, and no answer of any
+ * office changes; two may each be the reason for the other, so ask again after each.
  * Answers: count the words written. Writes: their indices in the edge table, from 0, rising.
  * Refuses with: 1 to 17, 20, 25.
  * Stack: at most 46,080 bytes. */

@@ -15,11 +15,11 @@ static const uint32_t first[] = {1, 1, 8, 7, 6, 38, /* nodes */ 1, 11, 0, 1, 1, 
 static const uint32_t second[] = {1, 1, 4, 3, 6, 22, /* nodes */ 1, 11, 0, 1, 2, 21, 0, 1, 3, 31, 2, 1, 4, 42, 0, 1,
                                   /* edges */ 1, 0, 1, 1, 3, 1, 2, 1, 5, 2, 3, 1};
 
-/* Person 1 is in category 2 and in 3, which contains it: edge row 1 is redundant. Deeds 4 and 5 are granted on folio 6, and
- * deed 5 is banned too. */
-static const uint32_t third[] = {1, 1, 6, 8, 6, 30, /* nodes */ 1, 1, 0, 1, 2, 2, 0, 1, 2, 3, 0, 1, 3, 4, 0, 1, 3, 5, 0, 1,
+/* Person 1 is in category 2 and in 3, which contains it. Deeds 4 and 5 are granted on folio 6, and deed 5 is banned too: by 2 and
+ * by 3, so that edge row 6 is redundant. */
+static const uint32_t third[] = {1, 1, 6, 9, 6, 30, /* nodes */ 1, 1, 0, 1, 2, 2, 0, 1, 2, 3, 0, 1, 3, 4, 0, 1, 3, 5, 0, 1,
                                  4, 6, 0, 1, /* edges */ 1, 0, 1, 1, 1, 0, 2, 1, 2, 1, 2, 1, 3, 2, 3, 1, 3, 2, 4, 1,
-                                 4, 1, 4, 1, 5, 3, 5, 1, 5, 4, 5, 1};
+                                 4, 1, 4, 1, 4, 2, 4, 1, 5, 3, 5, 1, 5, 4, 5, 1};
 
 /* The joint sheet of the first two, and the first with a node row of no type; made at the start. */
 static uint32_t joint[70];

@@ -22,6 +22,15 @@ RING = sheet([(1, 1, 0), (2, 1, 0), (2, 2, 0), (2, 3, 0), (3, 1, 0), (4, 1, 0)],
 # since the other category both contains and is contained. Neither containment is: there is no third category to go through.
 TWINS = sheet([(1, 1, 0), (2, 1, 0), (2, 2, 0), (3, 1, 0), (4, 1, 0)],
               [(1, 0, 1), (1, 0, 2), (2, 1, 2), (2, 2, 1), (3, 1, 3), (3, 2, 3), (4, 1, 3), (4, 2, 3), (5, 3, 4)])
+# Request 2026-02: 11 is in 21 and in 22, 21 is within 22, and 22 bans. Without edge 1 the ban would not reach 11. Then the same
+# without the ban; and two offices, of which only the second has it.
+_PRUNED = [(1, 11, 0), (2, 21, 0), (2, 22, 0), (3, 31, 1), (4, 41, 0)], [(1, 0, 1), (1, 0, 2), (2, 1, 2), (4, 2, 3), (5, 3, 4)]
+PRUNED = sheet(*_PRUNED)
+UNBANNED = sheet(_PRUNED[0], _PRUNED[1][:3] + _PRUNED[1][4:])
+ELSEWHERE = sheet([node + (3,) for node in _PRUNED[0]], [edge + (2 if edge[0] == 4 else 3,) for edge in _PRUNED[1]], 2)
+# 21 within 22 within 23, 11 in all three, and 21 bans a deed that has no folio: only the middle membership has one on each side.
+BETWEEN = sheet([(1, 11, 0), (2, 21, 0), (2, 22, 0), (2, 23, 0), (3, 31, 1)],
+                [(1, 0, 1), (1, 0, 2), (1, 0, 3), (2, 1, 2), (2, 2, 3), (4, 1, 4)])
 # Edge 1 goes from category 1 to 3, and edges 0 and 2 go there through 2.
 SHORTCUT = sheet([(2, 1, 0), (2, 2, 0), (2, 3, 0)], [(2, 0, 1), (2, 0, 2), (2, 1, 2)])
 # Person 1 reaches folio 1 by four paths of four nodes: through category 4 by deed 9/1 and 9/7, through 5 by 9/0 and 9/1. 4 is
@@ -152,7 +161,13 @@ ASKED = [
     ('the other deed is unknown', A, 'duties', (1, 31, 99), Refused(22)),
     ('office before deeds', A, 'duties', (2, 99, 99), NO_OFFICE),
     ('nobody has both', sheet([(3, 1, 0), (3, 2, 0)], []), 'duties', (1, 1, 2), NONE),
-    ('a second membership', HARBOUR, 'redundant', (1,), rows(HARBOUR, 1)),
+    ('a second membership beside a ban', HARBOUR, 'redundant', (1,), rows(HARBOUR)),
+    ('the membership that must not be pruned', PRUNED, 'redundant', (1,), rows(PRUNED)),
+    ('the ban that it leads to', PRUNED, 'answer', (1, 11, 31, 41), says(2)),
+    ('a second membership', UNBANNED, 'redundant', (1,), rows(UNBANNED, 1)),
+    ('the ban of the other office', ELSEWHERE, 'redundant', (1,), rows(ELSEWHERE, 1)),
+    ('the ban of the office', ELSEWHERE, 'redundant', (2,), rows(ELSEWHERE)),
+    ('a membership between two', BETWEEN, 'redundant', (1,), rows(BETWEEN, 1)),
     ('equal categories', TWINS, 'redundant', (1,), rows(TWINS, 0, 1, 4, 5, 6, 7)),
     ('a shortcut', SHORTCUT, 'redundant', (1,), rows(SHORTCUT, 1)),
     ('a ring', RING, 'redundant', (1,), rows(RING)),
@@ -355,7 +370,7 @@ def lines(file):
             (('joint', file(BARE), '2', '11', '31', '41'), 'undetermined (0), decided by no office\n'),
             (('find', file(JOINT), file(A), 'person', '11'), 'first sheet, node 0: person 11, offices 1 and 2\n'),
             (('find', file(B), file(A), 'deed', '31/1'), 'second sheet, node 4: deed 31/1, office 1\n'),
-            (('redundant', file(HARBOUR), '1'), 'edge 1: person 1 in category 3, office 1\n'),
+            (('redundant', file(UNBANNED), '1'), 'edge 1: person 11 in category 22, office 1\n'),
             (('unreached', file(EMPTY), '1'), 'none\n'),
             (('duties', file(HARBOUR), '1', '4', '5'), 'person 1, folio 6\n'),
             (('conflict', file(C), '1'), 'person 11, deed 31, folio 42\n'),

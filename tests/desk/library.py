@@ -24,7 +24,7 @@ def text_words(text):
 def lines():
     """What tests/library.c prints. Of a result: number, sheet, row, value, count; what was written; the word after it.
     Where out is lent as bytes, it is shown as words: the machine is x86-64."""
-    yield 'version: 0.3.0'
+    yield 'version: 0.4.0'
     yield 'answer: 0 0 0 2 0; 4294967295'
     yield 'joint_answer: 0 0 0 2 1; 4294967295'
     yield 'witness: 0 0 0 0 40; 11 0 21 0 22 0 31 1 41 0 4294967295'
@@ -69,7 +69,7 @@ def lines():
     yield 'least_triple, a word short: 25 0 0 0 0; 4294967295'
     yield 'least_holder: 0 0 0 0 2; 1 6 4294967295'
     yield 'least_holder, a word short: 25 0 0 0 0; 4294967295'
-    yield 'redundant_edges: 0 0 0 0 1; 1 4294967295'
+    yield 'redundant_edges: 0 0 0 0 1; 6 4294967295'
     yield 'redundant_edges, no room: 25 0 0 0 0; 4294967295'
     yield f'join: 0 0 0 70 8 8 4 2; {words(JOINT)} {ROOM}'
     yield 'join, a word short: 25 0 0 0 0 0 0 0; 4294967295'

@@ -249,7 +249,10 @@ def is_redundant(sheet, office, edge):
     within = pairs(sheet, office, WITHIN)
     alike = pairs(sheet, office, edge.kind)
     if edge.kind == MEMBER:
-        return any(who == start and other != end and end in above(within, other) for who, other in alike)
+        others = [other for who, other in alike if who == start and other != end]
+        contained, containing = (any(end in above(within, other) for other in others),
+                                 any(other in above(within, end) for other in others))
+        return contained and (containing or not pairs(sheet, office, BAN))
     if edge.kind == WITHIN:
         return longer_way(within, [start], end)
     if edge.kind == GRANT:

@@ -58,8 +58,8 @@ JOINT = sheet([ship + (marks,) for ship, marks in zip(_SHIPS, (3, 1, 3, 1, 1, 3,
               [(1, 0, 2, 3), (1, 1, 3, 1), (2, 2, 3, 1), (3, 2, 5, 2), (3, 3, 4, 1), (4, 2, 5, 1), (5, 4, 6, 1), (5, 5, 7, 3)],
               offices=2)
 
-# Person 1 is in category 2 and in 3, which contains it, so that edge 1 is redundant. Deeds 4 and 5 are granted on folio 6, and
-# deed 5 is banned too. Nobody is granted anything on folio 7, and nobody is in category 4.
+# Person 1 is in category 2 and in 3, which contains it; without the ban, edge 1 would be redundant. Deeds 4 and 5 are granted on
+# folio 6, and deed 5 is banned too. Nobody is granted anything on folio 7, and nobody is in category 4.
 HARBOUR = sheet([(1, 1, 0), (2, 2, 0), (2, 3, 0), (2, 4, 0), (3, 4, 0), (3, 5, 0), (4, 6, 0), (4, 7, 0)],
                 [(1, 0, 1), (1, 0, 2), (2, 1, 2), (3, 2, 4), (3, 2, 5), (4, 1, 5), (5, 4, 6), (5, 5, 6)])
 

@@ -5,6 +5,8 @@ pub mod Existing
 pub mod Least
 pub mod Answering
 pub mod Listed
+pub mod Pruned
+pub mod PrunedCases
 pub mod Holding
 pub mod MistakesOfRefusals
 pub mod MistakesOfAnswers

@@ -1,5 +1,6 @@
 pub mod Tests
 pub mod Ways
+pub mod Detours
 pub mod Distances
 pub mod Rounds
 pub mod Trails

@@ -94,3 +94,8 @@ module _ (step : ℕ → ℕ → Bool) where
 pub reach-back : (step : ℕ → ℕ → Bool) {a c : ℕ} → Reach step a c → Reach (λ x y. step y x) c a
 reach-back step here = here
 reach-back step (more s r) = joined (λ x y. step y x) (reach-back step r) (more s here)
+
+-- where each step is reached by other steps, all that is reached is
+pub reach-map : {step step′ : ℕ → ℕ → Bool} → ((a b : ℕ) → step a b ≡ true → Reach step′ a b) → {a c : ℕ} → Reach step a c → Reach step′ a c
+reach-map f here = here
+reach-map {step′ = step′} f (more {a} {b} s r) = joined step′ (f a b s) (reach-map f r)

@@ -1,4 +1,4 @@
--- The other steps of a row's walk lead from its one end to the other exactly if it is redundant: by the link that the row is, a case for each kind. Other rows of the same relation make the same step.
+-- The other steps of a side's walk lead from a row's one end to the other exactly if something else leads there in the row's stead: by the link that the row is, a case for each kind. Other rows of the same relation make the same step.
 -- Assumes nothing.
 use Prim.Native.Nat.{ℕ, suc, _+_, _<_, _≤_}
 use native.Mathlib.Omega.{arith}
@@ -20,15 +20,15 @@ use Rattle.paths.specs.Reached.{Reached, start, then}
 use Rattle.paths.specs.Best.{Trail, ends, goes}
 use Rattle.paths.proofs.Tests.{and-right}
 use Rattle.meaning.specs.Paths.{Side, rightKind, person, category, deed, member, right, step}
-use Rattle.meaning.specs.Questions.{Redundant, member-row, containment-row, right-row}
+use Rattle.meaning.specs.Questions.{AlsoMember}
 use Rattle.walk.specs.declared.Walk.{Walk}
 use Rattle.walk.specs.Arcs.{takes, turned, tailOf, headOf, arcAt, Steps, leavingOut}
 use Rattle.walk.proofs.Walking.{step-inside, other-step, other-apart, step-other}
 use Rattle.ask.proofs.Links.{walkFor, Link, joins, climbs, gives-right, serves, link-of, member-arc, step-arc, right-arc, same-row}
-use Rattle.redundant.specs.Pruned.{sideFor}
+use Rattle.reach.specs.Reaching.{LeadsTo}
 use Rattle.reach.proofs.Reaching.{Step, own-step, any-step}
-use Rattle.redundant.proofs.Detours.{without, kept, still, never, Detour, detour-of, detour-reach}
-use Rattle.redundant.proofs.Taking.{Own, own-of, kindBy, kind-by, side-again}
+use Rattle.paths.proofs.Detours.{without, kept, still, never, Detour, detour-of, detour-reach}
+use Rattle.redundant.proofs.Taking.{Own, own-of, kindBy, kind-by}
 
 -- reached in some steps and not where it started
 beyond-of : (R : ℕ → ℕ → Bool) {a c : ℕ} → Reach R a c → (a ≡ c → ⊥) → Beyond R a c
@@ -39,6 +39,12 @@ beyond-of R (more {b = b} e r) n = record { next = b; first = e; rest = r }
 unrolled : (R : ℕ → ℕ → Type 0) (x y : ℕ) {n z : ℕ} {l : List ℕ} → Reached R (λ q. q ≡ x) n z → Trail R (λ q. q ≡ y) z l → (l′ : List ℕ) × Trail R (λ q. q ≡ y) x l′
 unrolled R x y {l = l} (start e) w = (l, subst (λ (q : ℕ). Trail R (λ q. q ≡ y) q l) e w)
 unrolled R x y (then r st) w = unrolled R x y r (goes st w)
+
+-- what the walk of a side finds past a relation, by its kind
+pub data PastBy (g : View) (side : Side) (k : Key) : Type 0 where
+  also-member : (p a : ℕ) → k ≡ relation memberKind (person p) (category a) → AlsoMember g side p a → PastBy g side k
+  also-contained : (a b : ℕ) (cs : List ℕ) → k ≡ relation containedKind (category a) (category b) → 2 ≤ length cs → leads (step g side) (λ c. eqb c b) a cs ≡ true → PastBy g side k
+  also-right : (a c d v : ℕ) → k ≡ relation (rightKind side) (category a) (deed d v) → (c ≡ a → ⊥) → Beyond (step g side) a c → right g side c d v ≡ true → PastBy g side k
 
 module _ (s : List ℕ) (acc : Accepted s) (seat : Seat) (side : Side) (j : ℕ) where
   abbrev g : View
@@ -68,9 +74,8 @@ module _ (s : List ℕ) (acc : Accepted s) (seat : Seat) (side : Side) (j : ℕ)
   OtherSteps = Steps s (edgeTable s) past (headerOf s .edges)
 
   -- the other steps lead from the row's one end to the other
-  pub record Past : Type 0 where
-    pub steps : ℕ
-    pub reached : Reached OtherSteps (λ x. x ≡ from) steps to
+  abbrev pub Past : Type 0
+  Past = LeadsTo s (edgeTable s) (headerOf s) past from to
 
   -- a link by another row
   record Aside (a b : ℕ) : Type 0 where
@@ -232,24 +237,21 @@ module _ (s : List ℕ) (acc : Accepted s) (seat : Seat) (side : Side) (j : ℕ)
     listed P = unrolled OtherSteps from to (P .reached) (ends refl)
 
     -- a member row: another category of the person's leads on to this one
-    abbrev Elsewhere : ℕ → ℕ → Type 0
-    Elsewhere p y = (c : ℕ) × (c ≡ y → ⊥) × (member g p c ≡ true) × Beyond (step g side) c y
-
-    past-member : (p y : ℕ) → nodeKeyAt s from ≡ person p → nodeKeyAt s to ≡ category y → Past → Elsewhere p y
+    past-member : (p y : ℕ) → nodeKeyAt s from ≡ person p → nodeKeyAt s to ≡ category y → Past → AlsoMember g side p y
     past-member p y u v P = go from refl (listed P .0) (listed P .1)
       where
-        by : (z b : ℕ) (l : List ℕ) → z ≡ from → (A : Aside z b) → Link s acc seat side (A .for) z b → Way-on b l → Elsewhere p y
+        by : (z b : ℕ) (l : List ℕ) → z ≡ from → (A : Aside z b) → Link s acc seat side (A .for) z b → Way-on b l → AlsoMember g side p y
         by z b l e A (joins p′ c x x′ m) w′ =
             let a : person p′ ≡ person p = sym x ∙ ap (nodeKeyAt s) e ∙ u in
             let i : p′ ≡ p = cc in
             let n : c ≡ y → ⊥ = λ q. A .apart e (one-node b to (category y) (A .inside) to-in (x′ ∙ ap (λ (j : ℕ). category j) q) v) in
             let r = to-category (step g side) (climb-all (λ q q′. let q″ : class from ≡ 1 = cc in omega arith)) y v b c l (A .inside) x′ w′ in
-            (c, n, subst (λ (q : ℕ). member g q c ≡ true) i m, beyond-of (step g side) r n)
+            record { c = c; another = n; member-of = subst (λ (q : ℕ). member g q c ≡ true) i m; leads-here = beyond-of (step g side) r n }
         by z b l e A (climbs c c′ x x′ m) w′ = absurd (let q : category c ≡ person p = sym x ∙ ap (nodeKeyAt s) e ∙ u in let i : _≡_ {A = ℕ} 2 1 = cc in omega arith)
         by z b l e A (gives-right c d x x′ m) w′ = absurd (let q : category c ≡ person p = sym x ∙ ap (nodeKeyAt s) e ∙ u in let i : _≡_ {A = ℕ} 2 1 = cc in omega arith)
         by z b l e A (serves d d′ f x x′ m) w′ = absurd (let q : deed d d′ ≡ person p = sym x ∙ ap (nodeKeyAt s) e ∙ u in let i : _≡_ {A = ℕ} 3 1 = cc in omega arith)
 
-        go : (z : ℕ) → z ≡ from → (l : List ℕ) → Way-on z l → Elsewhere p y
+        go : (z : ℕ) → z ≡ from → (l : List ℕ) → Way-on z l → AlsoMember g side p y
         go z e l (ends q) = absurd (let r : person p ≡ category y = sym u ∙ ap (nodeKeyAt s) (sym e ∙ q) ∙ v in let i : _≡_ {A = ℕ} 1 2 = cc in omega arith)
         go z e l (goes {b = b} {l = l′} st w′) = let A = aside-of z b st in by z b l′ e A (A .link) w′
 
@@ -303,13 +305,13 @@ module _ (s : List ℕ) (acc : Accepted s) (seat : Seat) (side : Side) (j : ℕ)
     outset : (x : ℕ) → nodeKeyAt s from ≡ category x → Landed x
     outset x u = record { steps = 0; row = from; reached = start refl; row-in = from-in; names = u }
 
-    member-past : (p y : ℕ) → nodeKeyAt s from ≡ person p → nodeKeyAt s to ≡ category y → Elsewhere p y → Past
+    member-past : (p y : ℕ) → nodeKeyAt s from ≡ person p → nodeKeyAt s to ≡ category y → AlsoMember g side p y → Past
     member-past p y u v e =
-        let o = member-arc s acc seat side 0 from p (e .0) from-in u (e .2) in
-        let n : o .row ≡ to → ⊥ = λ q. e .1 (same-number (o .row) to (e .0) y q (o .names) v) in
-        landed y v (climbed (step g side) (climb-all (λ q q′. let q″ : class from ≡ 1 = cc in omega arith)) (e .0) y
+        let o = member-arc s acc seat side 0 from p (e .c) from-in u (e .member-of) in
+        let n : o .row ≡ to → ⊥ = λ q. e .another (same-number (o .row) to (e .c) y q (o .names) v) in
+        landed y v (climbed (step g side) (climb-all (λ q q′. let q″ : class from ≡ 1 = cc in omega arith)) (e .c) y
         (record { steps = 1; row = o .row; reached = then (start refl) (past-step from (o .row) (o .arc) (λ q. n)); row-in = o .inside; names = o .names })
-        (more (e .3 .first) (e .3 .rest)))
+        (more (e .leads-here .first) (e .leads-here .rest)))
 
     contained-past : (x y : ℕ) (cs : List ℕ) → nodeKeyAt s from ≡ category x → nodeKeyAt s to ≡ category y → 2 ≤ length cs → leads (step g side) (λ c. eqb c y) x cs ≡ true → Past
     contained-past x y cs u v l e = landed y v (climbed (without (step g side) x y) (climb-past x y u v) x y (outset x u) (detour-reach (step g side) x y cs l e))
@@ -336,48 +338,46 @@ module _ (s : List ℕ) (acc : Accepted s) (seat : Seat) (side : Side) (j : ℕ)
     kind-for : (n : ℕ) → class from + class to ≡ n → edge j .kind ≡ kindBy side n
     kind-for n e = kind-by side (edge j .kind) (class from) (class to) (own-kind j taken) (acc .edges .fit j inside .ends) ∙ ap (kindBy side) e
 
-    module _ (fit : side ≡ sideFor (edge j .kind)) where
-      pub past-redundant : Past → Redundant g (relation (edge j .kind) (nodeKeyAt s from) (nodeKeyAt s to))
-      past-redundant P = by (own-link .0) (own-link .1)
-        where
-          by : (d : ℕ) → Link s acc seat side d from to → Redundant g (relation (edge j .kind) (nodeKeyAt s from) (nodeKeyAt s to))
-          by d (joins p y u v m) =
-              let a : class from ≡ 1 = cc in
-              let b : class to ≡ 2 = cc in
-              let n = kind-for 3 (omega arith) in
-              let r = past-member p y u v P in
-              member-row p y (r .0) (cc) (r .1) (r .2) (subst (λ (S : Side). Beyond (step g S) (r .0) y) (fit ∙ ap sideFor n) (r .3))
-          by d (climbs x y u v m) =
-              let a : class from ≡ 2 = cc in
-              let b : class to ≡ 2 = cc in
-              let n = kind-for 4 (omega arith) in
-              let r = past-contained x y u v (acc .edges .fit j inside .apart n) P in
-              containment-row x y (r .by) (cc) (r .long) (subst (λ (S : Side). leads (step g S) (λ c. eqb c y) x (r .by) ≡ true) (fit ∙ ap sideFor n) (r .leads-on))
-          by d (gives-right x v u t m) =
-              let a : class from ≡ 2 = cc in
-              let b : class to ≡ 3 = cc in
-              let n = kind-for 5 (omega arith) in
-              let r = past-right x d v u t P in
-              right-row side x (r .0) d v (cc) (r .1) (r .2) (r .3)
-          by d (serves x v f u t m) =
-              let a : class from ≡ 3 = cc in
-              let b : class to ≡ 4 = cc in
-              absurd (past-applies a b P)
+    -- what the walk finds of row j
+    abbrev own-key : Key
+    own-key = relation (edge j .kind) (nodeKeyAt s from) (nodeKeyAt s to)
 
-      pub redundant-past : Redundant g (relation (edge j .kind) (nodeKeyAt s from) (nodeKeyAt s to)) → Past
-      redundant-past (member-row p y c q n m b) =
-          let z : edge j .kind ≡ memberKind = cc in
-          let u : nodeKeyAt s from ≡ person p = cc in
-          let v : nodeKeyAt s to ≡ category y = cc in
-          member-past p y u v (c, n, m, subst (λ (S : Side). Beyond (step g S) c y) (sym (fit ∙ ap sideFor z)) b)
-      redundant-past (containment-row x y cs q l e) =
-          let z : edge j .kind ≡ containedKind = cc in
-          let u : nodeKeyAt s from ≡ category x = cc in
-          let v : nodeKeyAt s to ≡ category y = cc in
-          contained-past x y cs u v l (subst (λ (S : Side). leads (step g S) (λ c. eqb c y) x cs ≡ true) (sym (fit ∙ ap sideFor z)) e)
-      redundant-past (right-row side′ x c d v q n b m) =
-          let z : edge j .kind ≡ rightKind side′ = cc in
-          let u : nodeKeyAt s from ≡ category x = cc in
-          let t : nodeKeyAt s to ≡ deed d v = cc in
-          let o : side′ ≡ side = sym (fit ∙ ap sideFor z ∙ side-again side′) in
-          right-past x d v u t (c, n, subst (λ (S : Side). Beyond (step g S) x c) o b, subst (λ (S : Side). right g S c d v ≡ true) o m)
+    pub past-found : Past → PastBy g side own-key
+    past-found P = by (own-link .0) (own-link .1)
+      where
+        by : (d : ℕ) → Link s acc seat side d from to → PastBy g side own-key
+        by d (joins p y u v m) =
+            let a : class from ≡ 1 = cc in
+            let b : class to ≡ 2 = cc in
+            let n = kind-for 3 (omega arith) in
+            also-member p y (cc) (past-member p y u v P)
+        by d (climbs x y u v m) =
+            let a : class from ≡ 2 = cc in
+            let b : class to ≡ 2 = cc in
+            let n = kind-for 4 (omega arith) in
+            let r = past-contained x y u v (acc .edges .fit j inside .apart n) P in
+            also-contained x y (r .by) (cc) (r .long) (r .leads-on)
+        by d (gives-right x v u t m) =
+            let a : class from ≡ 2 = cc in
+            let b : class to ≡ 3 = cc in
+            let n = kind-for 5 (omega arith) in
+            let r = past-right x d v u t P in
+            also-right x (r .0) d v (cc) (r .1) (r .2) (r .3)
+        by d (serves x v f u t m) =
+            let a : class from ≡ 3 = cc in
+            let b : class to ≡ 4 = cc in
+            absurd (past-applies a b P)
+
+    pub found-past : PastBy g side own-key → Past
+    found-past (also-member p y q m) =
+        let u : nodeKeyAt s from ≡ person p = cc in
+        let v : nodeKeyAt s to ≡ category y = cc in
+        member-past p y u v m
+    found-past (also-contained x y cs q l e) =
+        let u : nodeKeyAt s from ≡ category x = cc in
+        let v : nodeKeyAt s to ≡ category y = cc in
+        contained-past x y cs u v l e
+    found-past (also-right x c d v q n b m) =
+        let u : nodeKeyAt s from ≡ category x = cc in
+        let t : nodeKeyAt s to ≡ deed d v = cc in
+        right-past x d v u t (c, n, b, m)

@@ -1,24 +1,25 @@
-// Question 10 at an office: the rows that are redundant, each judged by a walk without its step.
+// Question 10 at an office: the rows that are redundant, each judged by walks without its step.
 use sheet::BAN;
 use sheet::Edge;
 use sheet::GRANT;
 use sheet::Header;
+use sheet::MEMBER;
 use sheet::Seat;
 use walk::LeftOut;
 ghost use mathlib.Core.Path.{_≡_};
 ghost use Prim.Native.Nat.{_<_};
 ghost use lib.ListN.{length};
+ghost use Rattle.sheet.specs.Kinds.{grantKind, banKind};
 ghost use Rattle.sheet.specs.Limits.{mostEdges};
-ghost use Rattle.sheet.specs.Accepted.{WellFormed};
+ghost use Rattle.tables.specs.Count.{someRow};
+ghost use Rattle.sheet.specs.Accepted.{EdgeRoom, WellFormed};
 ghost use Rattle.sheet.specs.Seats.{Seated};
 ghost use Rattle.meaning.specs.Answers.{Says};
 ghost use Rattle.meaning.specs.Questions.{RedundantRow, RedundantEdgesAre};
 ghost use Rattle.question.specs.Checked.{AtSeat};
 ghost use Rattle.reach.specs.Finds.{Finds};
-ghost use Rattle.redundant.specs.Pruned.{BothArranged, stepOf, PastRow};
-
-// One number for each node row.
-const ROWS: usize = sheet::MAX_NODES as usize;
+ghost use Rattle.walk.specs.Arcs.{walkOf, Arranged};
+ghost use Rattle.redundant.specs.Pruned.{BothArranged, stepOf, LeadsPast, banAt};
 
 // The step that a row makes.
 fn step_of(e: Edge) -> LeftOut
@@ -31,57 +32,87 @@ fn step_of(e: Edge) -> LeftOut
     }
 }
 
-// How many steps lead to each node row from the row that a step leaves, by the walk that judges a row of the kind, without that step, and one; 0 where none do.
-fn past_row(
+// Whether other steps lead from a row's one end to the other, by the walk to rights of a kind.
+fn leads_past(
     sheet: &[u32],
     edges: &[u32],
     h: Header,
     seat: Seat,
-    kind: u32,
-    grantindex: &[u32],
-    banindex: &[u32],
-    but: LeftOut,
-) -> [u32; ROWS]
-    requires { ⌜ WellFormed (now sheet) (now edges) h × Seated seat × BothArranged (now sheet) (now edges) h seat (now grantindex) (now banindex) × (but .from < h .nodes) ⌝ }
-    ensures { λ r. ⌜ PastRow (now (sheet .entry)) (now (edges .entry)) h seat kind but r ⌝ }
+    right: u32,
+    index: &[u32],
+    e: Edge,
+) -> bool
+    requires { ⌜ WellFormed (now sheet) (now edges) h × Seated seat × Arranged (now sheet) (now edges) h (walkOf seat right 0) (now index) × (e .from < h .nodes) × (e .to < h .nodes) ⌝ }
+    ensures { λ r. ⌜ Says r (LeadsPast (now (sheet .entry)) (now (edges .entry)) h seat right e) ⌝ }
 {
-    if kind == BAN {
-        let bans = walk::leaving_out(walk::walk_of(seat, BAN, 0), but);
-        return walk::reach(sheet, edges, h, bans, banindex, but.from);
-    }
-    let grants = walk::leaving_out(walk::walk_of(seat, GRANT, 0), but);
-    walk::reach(sheet, edges, h, grants, grantindex, but.from)
+    let past = walk::leaving_out(walk::walk_of(seat, right, 0), step_of(e));
+    let d = walk::reach(sheet, edges, h, past, index, e.from);
+    let to = e.to as usize;
+    d[to] != 0
 }
 
-// Whether an edge row counts for the seat and is redundant there: its to end is reached from its from end by other steps.
+// Whether the office has a ban row.
+fn has_ban_row(edges: &[u32], h: Header, seat: Seat) -> bool
+    requires { ⌜ EdgeRoom h (now edges) × Seated seat ⌝ }
+    ensures { λ r. ⌜ r ≡ someRow (banAt (now (edges .entry)) h seat) (h .edges) ⌝ }
+{
+    let rows = h.edges;
+    let mut j: u32 = 0;
+    while j < rows {
+        let e = sheet::edge_at(edges, h, j as usize);
+        if sheet::counts(seat, e) & (e.kind == BAN) {
+            return true;
+        }
+        j += 1;
+    }
+    false
+}
+
+// Whether both walks lead past a row.
+fn both_lead_past(
+    sheet: &[u32],
+    edges: &[u32],
+    h: Header,
+    seat: Seat,
+    grantindex: &[u32],
+    banindex: &[u32],
+    e: Edge,
+) -> bool
+    requires { ⌜ AtSeat (now sheet) (now edges) h seat × BothArranged (now sheet) (now edges) h seat (now grantindex) (now banindex) × (e .from < h .nodes) × (e .to < h .nodes) ⌝ }
+    ensures { λ r. ⌜ Says r (LeadsPast (now (sheet .entry)) (now (edges .entry)) h seat grantKind e × LeadsPast (now (sheet .entry)) (now (edges .entry)) h seat banKind e) ⌝ }
+{
+    let up = leads_past(sheet, edges, h, seat, GRANT, grantindex, e);
+    if !up {
+        return up;
+    }
+    leads_past(sheet, edges, h, seat, BAN, banindex, e)
+}
+
+// Whether an edge row counts for the seat and is redundant there; `bans` says whether the office has a ban row. A ban is judged by the bans' walk, any other row by the grants', and a membership by both where there is a ban to lose.
 fn is_redundant(
     sheet: &[u32],
     edges: &[u32],
     h: Header,
     seat: Seat,
+    bans: bool,
     grantindex: &[u32],
     banindex: &[u32],
     j: u32,
 ) -> bool
-    requires { ⌜ AtSeat (now sheet) (now edges) h seat × (j < h .edges) × BothArranged (now sheet) (now edges) h seat (now grantindex) (now banindex) ⌝ }
+    requires { ⌜ AtSeat (now sheet) (now edges) h seat × (j < h .edges) × BothArranged (now sheet) (now edges) h seat (now grantindex) (now banindex) × (bans ≡ someRow (banAt (now edges) h seat) (h .edges)) ⌝ }
     ensures { λ r. ⌜ Says r (RedundantRow (now (sheet .entry)) (seat .office) j) ⌝ }
 {
     let e = sheet::edge_at(edges, h, j as usize);
     if !sheet::counts(seat, e) {
         return false;
     }
-    let d = past_row(
-        sheet,
-        edges,
-        h,
-        seat,
-        e.kind,
-        grantindex,
-        banindex,
-        step_of(e),
-    );
-    let to = e.to as usize;
-    d[to] != 0
+    if e.kind == BAN {
+        return leads_past(sheet, edges, h, seat, BAN, banindex, e);
+    }
+    if bans & (e.kind == MEMBER) {
+        return both_lead_past(sheet, edges, h, seat, grantindex, banindex, e);
+    }
+    leads_past(sheet, edges, h, seat, GRANT, grantindex, e)
 }
 
 // The rows that are redundant from the seat, rising, by arcs that are in order.
@@ -90,18 +121,19 @@ fn prune(
     edges: &[u32],
     h: Header,
     seat: Seat,
+    bans: bool,
     grantindex: &[u32],
     banindex: &[u32],
     list: &mut [u32],
 ) -> u32
-    requires { ⌜ AtSeat (now sheet) (now edges) h seat × BothArranged (now sheet) (now edges) h seat (now grantindex) (now banindex) × (length (now list) ≡ mostEdges) ⌝ }
+    requires { ⌜ AtSeat (now sheet) (now edges) h seat × BothArranged (now sheet) (now edges) h seat (now grantindex) (now banindex) × (bans ≡ someRow (banAt (now edges) h seat) (h .edges)) × (length (now list) ≡ mostEdges) ⌝ }
     ensures { λ r. ⌜ Finds (RedundantEdgesAre (now (sheet .entry)) (seat .office)) (now (list .exit)) r ⌝ }
 {
     let rows = h.edges;
     let mut n: u32 = 0;
     let mut j: u32 = 0;
     while j < rows {
-        let good = is_redundant(sheet, edges, h, seat, grantindex, banindex, j);
+        let good = is_redundant(sheet, edges, h, seat, bans, grantindex, banindex, j);
         n = reach::put(list, n, good, j);
         j += 1;
     }
@@ -129,5 +161,6 @@ pub fn redundant_edges_at(
     );
     let mut banindex = walk::blank_index();
     walk::arrange(sheet, edges, h, walk::walk_of(seat, BAN, 0), &mut banindex);
-    prune(sheet, edges, h, seat, &grantindex, &banindex, list)
+    let bans = has_ban_row(edges, h, seat);
+    prune(sheet, edges, h, seat, bans, &grantindex, &banindex, list)
 }

@@ -138,12 +138,21 @@ module _ (s : List ℕ) (w : Accepted s) where
         cc (r .names, f .ends),
       )
 
+-- what an office holds is what the marks at the key say
+module _ (s : List ℕ) (w : Accepted s) (office : ℕ) (k : Key) where
+  pub node-marked : heldAt s office .node k ≡ marked (marksAt (tablesOf s .nodes) k) office
+  unfolding heldBy
+  node-marked = held-marks office _ [] k _ (nodes-rise s w)
+
+  pub edge-marked : heldAt s office .edge k ≡ marked (marksAt (tablesOf s .edges) k) office
+  unfolding heldBy
+  edge-marked = held-marks office _ [] k _ (edges-rise s w)
+
 -- two offices hold the same where the marks at every key are theirs alike
 pub marks-held : (s t : List ℕ) → Accepted s → Accepted t → (o p : ℕ) → ((k : Key) → marked (marksAt (tablesOf s .nodes) k) o ≡ marked (marksAt (tablesOf t .nodes) k) p)
     → ((k : Key) → marked (marksAt (tablesOf s .edges) k) o ≡ marked (marksAt (tablesOf t .edges) k) p) → Same (heldAt s o) (heldAt t p)
-unfolding heldBy
 marks-held s t v w o p nodes edges =
     record {
-      nodes = λ k. held-marks o _ [] k _ (nodes-rise s v) ∙ nodes k ∙ sym (held-marks p _ [] k _ (nodes-rise t w));
-      edges = λ k. held-marks o _ [] k _ (edges-rise s v) ∙ edges k ∙ sym (held-marks p _ [] k _ (edges-rise t w));
+      nodes = λ k. node-marked s v o k ∙ nodes k ∙ sym (node-marked t w p k);
+      edges = λ k. edge-marked s v o k ∙ edges k ∙ sym (edge-marked t w p k);
     }

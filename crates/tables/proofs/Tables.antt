@@ -57,6 +57,21 @@ row-of (suc n) f k h = go (sameKey (f 0 .key) k) refl (row-of n (λ i. f (suc i)
         let later = more (rw zero-add at (rw e at h)) in
         record { row = suc (later .row); inside = omega (arith, later .inside); names = later .names }
 
+-- two tables have the same marks at a key where a row with it has its twin in the other table
+pub marks-twin : (n m : ℕ) (f g : ℕ → Row) → ((i j : ℕ) → i < n → j < n → f i .key ≡ f j .key → i ≡ j) → ((i j : ℕ) → i < m → j < m → g i .key ≡ g j .key → i ≡ j) → (k : Key)
+    → ((i : ℕ) → i < n → f i .key ≡ k → (j : ℕ) × (j < m) × (g j ≡ f i)) → ((j : ℕ) → j < m → g j .key ≡ k → RowAt n f k) → marksAt (rowsOf m g) k ≡ marksAt (rowsOf n f) k
+marks-twin n m f g own-f own-g k over back = go (decLt 0 (marksAt (rowsOf n f) k)) (decLt 0 (marksAt (rowsOf m g) k))
+  where
+    by : RowAt n f k → marksAt (rowsOf m g) k ≡ marksAt (rowsOf n f) k
+    by r =
+        let t = over (r .row) (r .inside) (r .names) in
+        marks-named m g own-g k (t .0) (t .1) (ap (λ (x : Row). x .key) (t .2) ∙ r .names) ∙ ap (λ (x : Row). x .marks) (t .2) ∙ sym (marks-named n f own-f k (r .row) (r .inside) (r .names))
+
+    go : Dec (0 < marksAt (rowsOf n f) k) → Dec (0 < marksAt (rowsOf m g) k) → marksAt (rowsOf m g) k ≡ marksAt (rowsOf n f) k
+    go (yes l) d = by (row-of n f k l)
+    go (no l) (yes d) = let r = row-of m g k d in by (back (r .row) (r .inside) (r .names))
+    go (no l) (no d) = omega arith
+
 -- where rows have keys of their own, the marks at a key are a row's or none, so they are below what the rows' are below
 pub marks-low : (top n : ℕ) (f : ℕ → Row) → ((i j : ℕ) → i < n → j < n → f i .key ≡ f j .key → i ≡ j) → 0 < top → ((i : ℕ) → i < n → f i .marks < top) → (k : Key) → marksAt (rowsOf n f) k < top
 marks-low top n f own some low k = go (decLt 0 (marksAt (rowsOf n f) k))

@@ -1,6 +1,6 @@
 //! The cases that are put to the trial program, numbered from 0. A plan has the
-//! checks and six series, one for each kind of operation; a case follows from the
-//! seed and its number, and carries what is expected of it.
+//! checks, six series, one for each kind of operation, and the removals; a case
+//! follows from the seed and its number, and carries what is expected of it.
 
 pub mod checks;
 pub mod joins;
@@ -9,6 +9,7 @@ pub mod listings;
 pub mod lookups;
 pub mod plan;
 pub mod questions;
+pub mod removals;
 pub mod series;
 pub mod surveys;
 pub mod takings;

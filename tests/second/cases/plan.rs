@@ -1,10 +1,11 @@
 //! What is put to the trial, case by case. A case of a check follows from the
 //! seed and its number alone; the questions come after the checks, 5 to 10 after
 //! 1 to 4, then the lookup, then joining and taking out, then the other ways to
-//! questions 1 to 3, then the listings, so their numbers follow from how many there
-//! are before them.
+//! questions 1 to 3, then the listings, then the removals, so their numbers follow
+//! from how many there are before them.
 
 use crate::cases::checks::Checks;
+use crate::cases::removals::{self, Removals};
 use crate::cases::series::{Made, Series};
 use crate::cases::{joins, listings, lookups, questions, surveys, ways};
 use crate::goals;
@@ -44,7 +45,7 @@ pub struct Case {
 
 /// How many random cases there are: of the checks, of questions 1 to 4, of 5 to
 /// 10, of the lookup, of joining and taking out, of the other ways to questions 1
-/// to 3, and of the listings.
+/// to 3, and of the listings; and how many sheets from which edges are removed.
 #[derive(Clone, Copy, Default)]
 pub struct Counts {
     pub checks: usize,
@@ -54,13 +55,15 @@ pub struct Counts {
     pub joins: usize,
     pub ways: usize,
     pub listings: usize,
+    pub removals: usize,
 }
 
 impl Counts {
     /// So many of everything but the checks.
     pub fn with_others(self, each: usize) -> Counts {
         let [questions, surveys, lookups, joins, ways, listings] = [each; 6];
-        Counts { checks: self.checks, questions, surveys, lookups, joins, ways, listings }
+        let (checks, removals) = (self.checks, each.div_ceil(removals::ASKED));
+        Counts { checks, questions, surveys, lookups, joins, ways, listings, removals }
     }
 
     /// At least so many in all, with shares that give each operation some, and the
@@ -69,12 +72,13 @@ impl Counts {
         let share = |percent: usize| (total * percent).div_ceil(100);
         Counts {
             checks: share(12),
-            questions: share(20),
+            questions: share(18),
             surveys: share(22),
             lookups: share(5),
             joins: share(11),
-            ways: share(18),
+            ways: share(14),
             listings: share(12),
+            removals: share(6).div_ceil(removals::ASKED),
         }
     }
 }
@@ -84,6 +88,7 @@ pub struct Plan {
     /// Questions 1 to 4, 5 to 10, the lookup, joining and taking out, the other ways,
     /// the listings.
     series: [Series; 6],
+    pub removals: Removals,
 }
 
 impl Plan {
@@ -98,6 +103,7 @@ impl Plan {
                 ways::series(seed, counts.ways),
                 listings::series(seed, counts.listings),
             ],
+            removals: Removals::new(seed, counts.removals),
         }
     }
 
@@ -130,11 +136,18 @@ impl Plan {
         self.before(5)
     }
 
-    pub fn len(&self) -> usize {
+    pub fn before_removals(&self) -> usize {
         self.before(self.series.len())
     }
 
+    pub fn len(&self) -> usize {
+        self.before_removals() + self.removals.len()
+    }
+
     pub fn case(&self, number: usize) -> Case {
+        if let Some(at) = number.checked_sub(self.before_removals()) {
+            return self.removals.case(number, at);
+        }
         match (0..self.series.len()).rev().find(|&at| self.before(at) <= number) {
             Some(at) => asked_case(number, self.series[at].case(number - self.before(at))),
             None => self.checks.case(number),
@@ -142,7 +155,7 @@ impl Plan {
     }
 }
 
-fn asked_case(number: usize, (kind, name, request, own_fault): Made) -> Case {
+pub fn asked_case(number: usize, (kind, name, request, own_fault): Made) -> Case {
     let mut case = judged(number, kind, name, request);
     case.about.goals = goals::met(&case.request, &case.expected);
     case.about.own_fault = own_fault;

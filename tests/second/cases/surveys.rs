@@ -8,7 +8,7 @@ use crate::generate::dress::remainder;
 use crate::generate::full::{full, Crew, Shape, SHAPES};
 use crate::generate::inquiry::{in_vain, Inquiry};
 use crate::generate::random::Random;
-use crate::generate::{damage, make, scene, scramble, throng};
+use crate::generate::{damage, make, memberships, scene, scramble, throng};
 use crate::model::answer::{answer, Answer};
 use crate::model::judge::judge_words;
 use crate::model::office::Side;
@@ -72,7 +72,7 @@ pub fn any(random: &mut Random, operation: u32) -> (&'static str, Inquiry) {
         let bytes = match manner {
             "survey: damaged sheet" => not_large(random, damage::any),
             "survey: spoiled sheet" => not_large(random, spoiled),
-            _ => bytes_of(&whole_sheet(random).words()),
+            _ => bytes_of(&whole_sheet(random, operation).words()),
         };
         let inquiry = inquire(random, operation, manner, bytes);
         tries -= 1;
@@ -88,10 +88,12 @@ fn finds(inquiry: &Inquiry) -> bool {
     found.is_ok_and(|answer| !answer.written.is_empty())
 }
 
-fn whole_sheet(random: &mut Random) -> Sheet {
+/// Memberships are what question 10 alone is about.
+fn whole_sheet(random: &mut Random, operation: u32) -> Sheet {
     match random.below(20) {
         0 => make::small(random),
         1..=4 => scene::small(random),
+        5..=11 if operation == REDUNDANT => memberships::small(random),
         _ => throng::small(random),
     }
 }

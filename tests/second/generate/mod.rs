@@ -15,6 +15,7 @@ pub mod lists;
 pub mod longest;
 pub mod make;
 pub mod marks;
+pub mod memberships;
 pub mod outline;
 pub mod pairs;
 pub mod random;

@@ -10,6 +10,7 @@ pub mod listings;
 pub mod lookups;
 pub mod questions;
 pub mod redundant;
+pub mod removals;
 pub mod rooms;
 pub mod surveys;
 pub mod takings;
@@ -27,6 +28,7 @@ use crate::trial::scope::Scope;
 
 pub fn needed() -> Vec<String> {
     let mut goals = questions::needed();
+    goals.extend(removals::needed());
     goals.extend(surveys::needed());
     goals.extend(of_operation(LOOKUP, lookups::needed()));
     goals.extend(of_operation(JOIN, joins::needed()));

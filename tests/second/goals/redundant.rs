@@ -3,7 +3,7 @@
 use std::collections::BTreeSet;
 
 use crate::model::marks::next_office;
-use crate::model::office::Side;
+use crate::model::office::{Office, Side};
 use crate::model::reach::Reach;
 use crate::model::redundant::{edges_at, redundant_rows, Edge};
 use crate::model::sheet::*;
@@ -16,8 +16,18 @@ const KINDS: [(u32, &str); 5] = [
     (APPLIES, "applies"),
 ];
 
+/// What a ban row at the office, or at the other one, makes of a member edge.
+const MEMBERS: [&str; 6] = [
+    "member beside bans redundant by two others",
+    "member beside bans redundant by one other in a ring",
+    "member beside bans left out though another is contained",
+    "member beside bans left out though another contains it",
+    "member left out for a ban row that no path uses",
+    "member redundant without bans though the other office has one",
+];
+
 pub fn needed() -> Vec<String> {
-    let mut goals = Vec::new();
+    let mut goals = MEMBERS.map(String::from).to_vec();
     for (kind, name) in KINDS {
         goals.push(format!("{name} left out"));
         if kind != APPLIES {
@@ -34,9 +44,16 @@ pub fn met(reach: &Reach, words: &[u32], office: u32, written: &[u32]) -> Vec<St
     let listed: BTreeSet<u32> = written.iter().copied().collect();
     let other = next_office(office, office_count(words));
     let elsewhere: BTreeSet<u32> = redundant_rows(words, other).into_iter().collect();
+    let bans_elsewhere = !Office::of(words, other).ban.is_empty();
     let mut goals = BTreeSet::new();
     for (row, edge) in edges_at(words, office) {
         let name = KINDS[edge.0 as usize - 1].1;
+        if edge.0 == MEMBER {
+            let met = of_member(reach, &edge, listed.contains(&row), bans_elsewhere);
+            goals.extend(
+                MEMBERS.iter().zip(met).filter(|(_, met)| *met).map(|(goal, _)| goal.to_string()),
+            );
+        }
         if listed.contains(&row) {
             let way = if in_ring(reach, &edge) { "in a ring" } else { "in a chain" };
             goals.insert(format!("{name} redundant {way}"));
@@ -54,6 +71,26 @@ pub fn met(reach: &Reach, words: &[u32], office: u32, written: &[u32]) -> Vec<St
         goals.insert("members of a ring, each redundant by the other".to_string());
     }
     goals.into_iter().collect()
+}
+
+/// In the order of the goals.
+fn of_member(reach: &Reach, edge: &Edge, listed: bool, bans_elsewhere: bool) -> [bool; 6] {
+    let (person, category) = (edge.1 .0, edge.2 .0);
+    let contained = |other: u32| reach.leads(Side::Grant, other, category);
+    let containing = |other: u32| reach.leads(Side::Grant, category, other);
+    let others = || reach.own(person).filter(|&other| other != category);
+    let one_for_both = others().any(|other| contained(other) && containing(other));
+    let bans = !reach.office.ban.is_empty();
+    let left_out = bans && !listed;
+    let unused = || reach.office.persons.iter().all(|&it| reach.pairs(Side::Ban, it).is_empty());
+    [
+        bans && listed && !one_for_both,
+        bans && listed && one_for_both,
+        left_out && others().any(contained),
+        left_out && others().any(containing),
+        left_out && others().any(contained) && unused(),
+        !bans && listed && bans_elsewhere,
+    ]
 }
 
 /// Whether the edge's own category, or both of them, are on a ring.

@@ -20,7 +20,18 @@ pub fn all() -> Vec<Misreading<Asking>> {
         wrong("a grant is never redundant", &[10], |a| skipping(a, GRANT)),
         wrong("a ban is never redundant", &[10], |a| skipping(a, BAN)),
         wrong("the own category counts in a ring", &[10], own_category),
-        wrong("members by a containing category", &[10], members_upwards),
+        wrong("members by a containing category", &[10], |a| members(a, is_containing)),
+        wrong("the old rule for members everywhere", &[10], |a| members(a, is_contained)),
+        wrong("the new rule for members everywhere", &[10], |a| members(a, is_between)),
+        wrong("another office's ban row counts", &[10], bans_of_any_office),
+        wrong("a ban row counts if a path uses it", &[10], bans_with_a_path),
+        wrong("a ban row counts for whom it reaches", &[10], bans_that_reach),
+        wrong("beside bans, contained twice", &[10], |a| beside_bans(a, is_contained_twice)),
+        wrong("beside bans, contained or containing", &[10], |a| beside_bans(a, is_beside)),
+        wrong("beside bans, containing alone", &[10], |a| beside_bans(a, is_containing)),
+        wrong("beside bans, the own one contained", &[10], |a| beside_bans(a, own_contained)),
+        wrong("beside bans, the own one containing", &[10], |a| beside_bans(a, own_containing)),
+        wrong("beside bans, never one for both", &[10], |a| beside_bans(a, is_between_two)),
         wrong("bans by a containing category", &[10], bans_upwards),
         wrong("grants by a contained category", &[10], grants_downwards),
         wrong("rights on any variant of the deed", &[10], any_variant),
@@ -85,14 +96,100 @@ fn own_category(asking: &Asking) -> Outcome {
     })
 }
 
-fn members_upwards(asking: &Asking) -> Outcome {
-    changed(asking, |reach, &(kind, from, to), right| match kind {
-        MEMBER => {
-            let mut others = reach.own(from.0).filter(|&other| other != to.0);
-            others.any(|other| reach.leads(Side::Grant, to.0, other))
+/// A member edge: which other categories of the person are contained in this one, and
+/// which contain it; whether this one is on a ring; whether the office has a ban row.
+struct Membership {
+    person: u32,
+    contained: Vec<u32>,
+    containing: Vec<u32>,
+    on_ring: bool,
+    bans: bool,
+}
+
+impl Membership {
+    fn of(reach: &Reach, person: u32, category: u32) -> Membership {
+        let others = || reach.own(person).filter(|&other| other != category);
+        Membership {
+            person,
+            contained: others()
+                .filter(|&other| reach.leads(Side::Grant, other, category))
+                .collect(),
+            containing: others()
+                .filter(|&other| reach.leads(Side::Grant, category, other))
+                .collect(),
+            on_ring: reach.on_ring(category),
+            bans: !reach.office.ban.is_empty(),
         }
+    }
+}
+
+fn is_contained(member: &Membership) -> bool {
+    !member.contained.is_empty()
+}
+
+fn is_contained_twice(member: &Membership) -> bool {
+    member.contained.len() > 1
+}
+
+fn is_containing(member: &Membership) -> bool {
+    !member.containing.is_empty()
+}
+
+fn is_between(member: &Membership) -> bool {
+    is_contained(member) && is_containing(member)
+}
+
+fn is_beside(member: &Membership) -> bool {
+    is_contained(member) || is_containing(member)
+}
+
+fn is_between_two(member: &Membership) -> bool {
+    let other = |low: &u32| member.containing.iter().any(|high| high != low);
+    member.contained.iter().any(other)
+}
+
+fn own_contained(member: &Membership) -> bool {
+    (member.on_ring || is_contained(member)) && is_containing(member)
+}
+
+fn own_containing(member: &Membership) -> bool {
+    is_contained(member) && (member.on_ring || is_containing(member))
+}
+
+/// Right but for the members.
+fn members(asking: &Asking, holds: impl Fn(&Membership) -> bool) -> Outcome {
+    changed(asking, |reach, &(kind, from, to), right| match kind {
+        MEMBER => holds(&Membership::of(reach, from.0, to.0)),
         _ => right,
     })
+}
+
+/// Right but for the members of an office that has a ban row.
+fn beside_bans(asking: &Asking, holds: impl Fn(&Membership) -> bool) -> Outcome {
+    members(asking, |member| if member.bans { holds(member) } else { is_contained(member) })
+}
+
+/// Right but for what an office with a ban row is.
+fn with_bans(asking: &Asking, bans: impl Fn(&Membership) -> bool) -> Outcome {
+    members(asking, |member| is_contained(member) && (is_containing(member) || !bans(member)))
+}
+
+fn bans_of_any_office(asking: &Asking) -> Outcome {
+    let bans = !Office::stitched(&asking.words).ban.is_empty();
+    with_bans(asking, |_| bans)
+}
+
+fn bans_with_a_path(asking: &Asking) -> Outcome {
+    let office = asking.office();
+    let reach = Reach::of(&office);
+    let used = office.persons.iter().any(|&person| !reach.pairs(Side::Ban, person).is_empty());
+    with_bans(asking, |_| used)
+}
+
+fn bans_that_reach(asking: &Asking) -> Outcome {
+    let office = asking.office();
+    let reach = Reach::of(&office);
+    with_bans(asking, |member| !reach.pairs(Side::Ban, member.person).is_empty())
 }
 
 /// Another category on the way of the given side has the right.
@@ -144,8 +241,10 @@ fn one_is_kept(asking: &Asking) -> Outcome {
 fn any_person(asking: &Asking) -> Outcome {
     changed(asking, |reach, &(kind, _, to), right| match kind {
         MEMBER => {
-            let mut others = reach.office.member.iter().filter(|pair| pair.1 != to.0);
-            others.any(|pair| reach.leads(Side::Grant, pair.1, to.0))
+            let others = || reach.office.member.iter().filter(|pair| pair.1 != to.0);
+            let contained = others().any(|pair| reach.leads(Side::Grant, pair.1, to.0));
+            let containing = others().any(|pair| reach.leads(Side::Grant, to.0, pair.1));
+            contained && (containing || reach.office.ban.is_empty())
         }
         _ => right,
     })

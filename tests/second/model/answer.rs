@@ -80,10 +80,7 @@ pub fn answer(
     let office = Office::of(words, numbers[0]);
     let side = Side::of_word(numbers[1]);
     match operation {
-        ANSWER => {
-            known(&[&office], &ask)?;
-            Ok(Answer { value: answer_at(&office, &ask), ..Answer::default() })
-        }
+        ANSWER => at_office(&office, &ask),
         WITNESS => {
             known(&[&office], &ask)?;
             written_witness(&office, side, &ask, room)
@@ -100,6 +97,12 @@ fn known(offices: &[&Office], ask: &Ask) -> Result<(), Refusal> {
     insist(offices.iter().any(|office| office.persons.contains(&ask.person)), 21)?;
     insist(offices.iter().any(|office| office.knows_deed(ask.deed)), 22)?;
     insist(offices.iter().any(|office| office.folios.contains(&ask.folio)), 23)
+}
+
+/// Question 1 of an office.
+pub fn at_office(office: &Office, ask: &Ask) -> Result<Answer, Refusal> {
+    known(&[office], ask)?;
+    Ok(Answer { value: answer_at(office, ask), ..Answer::default() })
 }
 
 /// 1 for a grant path and 2 for a ban path, so that both make 3.

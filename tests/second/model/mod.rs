@@ -1,7 +1,7 @@
 //! What a sheet is and what it means, from the documents alone: the independent
 //! program that everything else here asks. It reads and judges words and bytes,
-//! answers the ten questions, looks up, joins and takes out, and reads and writes
-//! listings. Nothing of it knows the trial program, or chance.
+//! answers the ten questions, looks up, joins and takes out, removes an edge, and
+//! reads and writes listings. Nothing of it knows the trial program, or chance.
 
 pub mod answer;
 pub mod bits;
@@ -18,6 +18,7 @@ pub mod office;
 pub mod place;
 pub mod reach;
 pub mod redundant;
+pub mod removal;
 pub mod sheet;
 pub mod survey;
 pub mod take_out;

@@ -41,11 +41,15 @@ pub fn is_redundant(reach: &Reach, bypassed: &BTreeSet<(u32, u32)>, edge: &Edge)
     }
 }
 
-/// Also a member of another category that is contained in this one. Another
-/// category is never no step away.
+/// Also a member of another category that is contained in this one, by which no
+/// grant is lost. Bans walk the other way: where the office has a ban row, used by a
+/// path or not, the person is also a member of another that contains this one. In a
+/// ring the two may be one. Another category is never no step away.
 fn member(reach: &Reach, person: u32, category: u32) -> bool {
-    let mut others = reach.own(person).filter(|&other| other != category);
-    others.any(|other| reach.leads(Side::Grant, other, category))
+    let others = || reach.own(person).filter(|&other| other != category);
+    let contained = others().any(|other| reach.leads(Side::Grant, other, category));
+    let containing = others().any(|other| reach.leads(Side::Ban, other, category));
+    contained && (containing || reach.office.ban.is_empty())
 }
 
 /// Another category that a path of this side may go on to has the right too:

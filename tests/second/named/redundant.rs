@@ -1,5 +1,6 @@
 //! Named cases of question 10: which edges are redundant, kind by kind, in lines
-//! and in rings. Rows are counted from 0.
+//! and in rings. Rows are counted from 0. What a ban row makes of member edges is in
+//! `memberships`.
 
 use crate::model::limits::MOST_NODES;
 use crate::model::sheet::*;

@@ -5,7 +5,7 @@ use crate::generate::longest::MOST_CATEGORIES;
 use crate::model::sheet::*;
 use crate::named::book::{Asked, Book};
 use crate::named::sister::*;
-use crate::named::{redundant, survey_refusals};
+use crate::named::{memberships, redundant, survey_refusals};
 
 pub fn all() -> Vec<Asked> {
     let mut book = Book::default();
@@ -21,6 +21,7 @@ pub fn all() -> Vec<Asked> {
     longest_chain(&mut book);
     no_rows(&mut book);
     redundant::add_all(&mut book);
+    memberships::add_all(&mut book);
     survey_refusals::add_all(&mut book);
     book.asked
 }

@@ -11,6 +11,10 @@ use std::sync::Arc;
 use std::time::Duration;
 
 use crate::cases::plan::Plan;
+use crate::cases::removals::Removals;
+use crate::model::answer::ANSWER;
+use crate::model::redundant::redundant_rows;
+use crate::model::removal::{every_answer, harm, removals};
 use crate::run::options::Options;
 use crate::run::progress::Progress;
 use crate::run::report::Report;
@@ -27,6 +31,9 @@ pub fn run(options: &Options) -> Tally {
     }
     let scope = options.only.clone();
     let mut report = Report::new(plan.clone(), numbers.clone(), scope, options.case.is_some());
+    if options.case.is_none() && options.only.has(ANSWER) {
+        remove_all(&plan.removals, &mut report);
+    }
     let cases = numbers.into_iter().map(move |number| {
         let case = plan.case(number);
         (case.about, case.request, case.expected)
@@ -38,6 +45,19 @@ pub fn run(options: &Options) -> Tally {
         progress.iter_mut().for_each(Progress::step);
     });
     report.close(faults)
+}
+
+/// Every edge that question 10 lists, removed by this program alone, one at a time:
+/// the sheet is still accepted, and no answer is another.
+fn remove_all(drawn: &Removals, report: &mut Report) {
+    for at in 0..drawn.sheets {
+        let words = drawn.sheet(at);
+        let before = every_answer(&words);
+        let answers = before.iter().map(|said| said.at.len() + said.joint.len()).sum();
+        for removal in removals(&words, redundant_rows) {
+            report.removed(at, &removal, answers, harm(&before, &removal.rest));
+        }
+    }
 }
 
 /// The numbers of the cases that are put to the trial.

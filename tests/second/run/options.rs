@@ -20,6 +20,7 @@ const COUNTS: Counts = Counts {
     joins: 10_000,
     ways: 4_200,
     listings: 27_000,
+    removals: 5_000,
 };
 
 pub struct Options {

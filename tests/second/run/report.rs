@@ -8,6 +8,7 @@ use crate::goals::coverage::{needed, Coverage};
 use crate::goals::{self, Goals};
 use crate::model::limits::{HEADER, NODE_WIDTH};
 use crate::model::listing::lines;
+use crate::model::removal::Removal;
 use crate::model::sheet::{bytes_of, words_of};
 use crate::run::tally::Tally;
 use crate::trial::operation::{READ_LISTING, UNKNOWN, WRITE_LISTING};
@@ -31,6 +32,9 @@ pub struct Report {
     outcomes: BTreeMap<u32, usize>,
     coverage: Coverage,
     goals: Goals,
+    /// Edges removed by this program alone, and the answers that it compared.
+    removals: usize,
+    compared: usize,
 }
 
 impl Report {
@@ -48,12 +52,36 @@ impl Report {
             outcomes: BTreeMap::new(),
             coverage: Coverage::default(),
             goals: Goals::default(),
+            removals: 0,
+            compared: 0,
         }
     }
 
     /// How many cases the run has.
     pub fn len(&self) -> usize {
         self.numbers.len()
+    }
+
+    /// By this program alone, after which so many answers were compared.
+    pub fn removed(
+        &mut self,
+        sheet: usize,
+        removal: &Removal,
+        answers: usize,
+        harm: Option<String>,
+    ) {
+        self.removals += 1;
+        self.compared += answers;
+        goals::removals::compared(removal).iter().for_each(|goal| self.goals.add(goal));
+        self.tally.count(harm.is_none());
+        if let (Some(harm), true) = (harm, self.shown < MOST_SHOWN) {
+            self.shown += 1;
+            let &Removal { office, row, .. } = removal;
+            println!(
+                "FAILED: sheet {sheet} of the removals, row {row} removed at office {office}:"
+            );
+            println!("    {harm}");
+        }
     }
 
     pub fn answered(&mut self, about: About, mut differences: Vec<String>) {
@@ -124,6 +152,7 @@ impl Report {
     fn print_counts(&self) {
         let named = self.kinds.get("named").unwrap_or(&0);
         println!("{} cases generated, {named} named", self.answered - named);
+        println!("{} edges removed and {} answers compared here", self.removals, self.compared);
         println!("cases by kind:");
         for (kind, count) in &self.kinds {
             println!("  {kind}: {count}");

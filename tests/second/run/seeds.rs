@@ -33,7 +33,7 @@ pub fn files(seed: u64, folder: &str) -> Tally {
 /// What is read as a listing.
 pub fn texts(seed: u64, folder: &str) -> Tally {
     let plan = Plan::new(seed, Counts { listings: RANDOM, ..Counts::default() });
-    let own = plan.before_listings()..plan.len();
+    let own = plan.before_listings()..plan.before_removals();
     told(folder, write_all(&plan, own, Path::new(folder), of_listing))
 }
 

@@ -4,7 +4,7 @@
 use std::collections::BTreeSet;
 
 use crate::generate::random::Random;
-use crate::generate::throng;
+use crate::generate::{memberships, throng};
 use crate::model::judge::judge_words;
 use crate::model::marks::mark_of;
 use crate::model::office::{Ask, Side};
@@ -14,16 +14,19 @@ use crate::run::tally::Tally;
 use crate::selftest::paths::{all_paths, ask_words};
 
 pub fn run(tally: &mut Tally) {
-    for number in 0..1_200 {
+    for number in 0..1_800 {
         let random = &mut Random::for_case(11, number);
-        let sheet = throng::small(random);
+        let (name, sheet) = match number {
+            0..1_200 => (format!("throng {number}"), throng::small(random)),
+            _ => (format!("memberships {number}"), memberships::small(random)),
+        };
         let words = sheet.words();
-        tally.test(&format!("throng {number} is valid"), judge_words(&words).number == 0);
+        tally.test(&format!("{name} is valid"), judge_words(&words).number == 0);
         let office = random.between(1, sheet.office_count as usize) as u32;
         let counted = Counted::of(&sheet, office);
         for operation in 5..=10 {
             let agreed = counted.agrees(&words, office, operation);
-            tally.test(&format!("throng {number}, question {operation}"), agreed);
+            tally.test(&format!("{name}, question {operation}"), agreed);
         }
     }
 }
@@ -156,7 +159,13 @@ impl<'a> Counted<'a> {
             self.sheet.edges.iter().filter(fits).map(|row| row[1])
         };
         match kind {
-            MEMBER => self.next(MEMBER, from).into_iter().any(|other| over(other, to)),
+            MEMBER => {
+                let own = self.next(MEMBER, from);
+                let bans = |row: &Row| row[0] == BAN && row[3] & self.mark != 0;
+                own.iter().any(|&other| over(other, to))
+                    && (!self.sheet.edges.iter().any(bans)
+                        || own.iter().any(|&other| over(to, other)))
+            }
             CONTAINED => self.steps(from, to).into_iter().any(|length| length >= 2),
             GRANT => holders(GRANT).any(|other| over(from, other)),
             BAN => holders(BAN).any(|other| over(other, from)),

@@ -13,6 +13,7 @@ pub mod misread;
 pub mod named;
 pub mod paths;
 pub mod questions;
+pub mod removals;
 pub mod repeatable;
 pub mod surveys;
 pub mod ways;
@@ -31,6 +32,7 @@ pub fn run() -> Tally {
     joins::run(&mut tally);
     ways::run(&mut tally);
     listings::run(&mut tally);
+    removals::run(&mut tally);
     benchmark::run(&mut tally);
     tally
 }

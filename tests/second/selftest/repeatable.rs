@@ -4,8 +4,16 @@ use crate::cases::plan::{Counts, Plan};
 use crate::run::tally::Tally;
 
 /// No random case of any kind.
-pub const NONE: Counts =
-    Counts { checks: 0, questions: 0, surveys: 0, lookups: 0, joins: 0, ways: 0, listings: 0 };
+pub const NONE: Counts = Counts {
+    checks: 0,
+    questions: 0,
+    surveys: 0,
+    lookups: 0,
+    joins: 0,
+    ways: 0,
+    listings: 0,
+    removals: 0,
+};
 
 /// Random cases that are looked at, and how many there are in a longer plan.
 const SOME: usize = 200;

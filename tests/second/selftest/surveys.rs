@@ -86,8 +86,9 @@ fn hands() -> Vec<Hand> {
         (9, &[1, 9, 2], 1, refused(22)),
         (9, &[1, 2, 9], 1, refused(22)),
         (9, &[1, 9, 9], 1, refused(22)),
-        (10, &[1], 9, list(&[0, 1, 2, 5, 7, 8, 12])),
-        (10, &[1], 6, refused(25)),
+        // There is a ban row: of person 1's three, 3 has 1 and 2 in it and is in neither.
+        (10, &[1], 9, list(&[0, 1, 5, 7, 8, 12])),
+        (10, &[1], 5, refused(25)),
         (10, &[2], 0, list(&[])),
         (10, &[u32::MAX], 0, refused(20)),
     ]
