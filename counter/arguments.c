@@ -66,6 +66,11 @@ static bool read_number_and_variant(const char *word, void *identity)
     return read_identity(word, identity);
 }
 
+static bool read_marks(const char *word, void *offices)
+{
+    return read_offices(word, offices);
+}
+
 static const char no_number[] = "is no number from 0 to 4294967295";
 static const char no_node[] = "is no node: [person|category|deed|folio] NUMBER[/VARIANT]";
 
@@ -94,6 +99,9 @@ static const struct {
                       "is no type: person, category, deed or folio"},
     [IDENTITY] = {"NUMBER[/VARIANT]", read_number_and_variant, offsetof(Desk, asked.identity),
                   "is no identity: NUMBER or NUMBER/VARIANT"},
+    [LINE] = {"LINE", read_name, offsetof(Desk, asked.line), ""},
+    [OFFICES] = {"OFFICES", read_marks, offsetof(Desk, asked.offices),
+                 "is no list of offices: numbers from 1 to 32 with commas, none twice"},
     [NODES] = {"NODE..", NULL, 0, no_node},
 };
 

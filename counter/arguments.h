@@ -18,6 +18,9 @@ bool read_number(const char *word, uint32_t *number);
 /* typed.c: whether the word is NUMBER or NUMBER/VARIANT; if so, both, the variant 0 where it is left out. The type stays. */
 bool read_identity(const char *word, Identity *identity);
 
+/* typed.c: whether the word is office numbers with commas, each 1 to 32 and none twice; if so, the sum of their marks. */
+bool read_offices(const char *word, uint32_t *offices);
+
 /* typed.c: reads the words up to NULL as a path's nodes. Returns the word that is no node, or NULL. Cuts the words apart. */
 const char *read_path(char **words, TypedPath *path);
 

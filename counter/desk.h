@@ -11,7 +11,7 @@ enum { ANSWERED = 0, REFUSED = 1, BAD_USAGE = 2, UNWRITTEN = 3 };
 enum { TYPED_NODES = TORMUKAI_NODES + 1 };
 
 /* A verb's most files, arguments and refusals. */
-enum { FILES = 2, ARGUMENTS = 8, REFUSALS = 8 };
+enum { FILES = 2, ARGUMENTS = 8, REFUSALS = 9 };
 
 /* A file's bytes: one more than any sheet has, so that a longer file that is cut here gets 33, as it would whole. */
 typedef struct File {
@@ -54,6 +54,8 @@ typedef struct Asked {
     uint32_t folio;
     Identity identity;
     TypedPath path;
+    const char *line;
+    uint32_t offices; /* a sum of marks */
 } Asked;
 
 /* All that a verb's function gets. The named files were read; where the verb has one FILE, the sheet has its words. */
@@ -84,6 +86,8 @@ typedef enum Argument {
     FOLIO,
     TYPE_OF_NODE,
     IDENTITY,
+    LINE,
+    OFFICES,
     NODES /* as many as there are, at least one; always the last */
 } Argument;
 
@@ -109,6 +113,14 @@ bool refused(Desk *desk, TormukaiRefusal refusal);
 /* reply.c: the same where the listing was read. The line at fault is shown. */
 bool refused_listing(Desk *desk, TormukaiListing told);
 
+/* reply.c: the same of a refusal with more facts than its number, its place and its sentence. They are told in between.
+ * end_refusal returns the exit status. */
+void tell_refusal(Desk *desk, TormukaiRefusal refusal);
+int end_refusal(Desk *desk);
+
+/* reply.c: such a fact: the line at fault. */
+void tell_line(Writer *out, Line line);
+
 void end_reply(Desk *desk);
 TormukaiRefusal refusal_of(TormukaiAnswer answer);
 
@@ -127,8 +139,14 @@ Line line_at(const Text *text, size_t number);
 /* result.c: writes the file whole or leaves it as it was. False, and a line on standard error, where it can't be written. */
 bool write_result(const char *name, const uint8_t *bytes, size_t length);
 
-/* sheets.c: writes the sheet's file to OUT, tells how large it is, and returns the exit status. Begins the reply. */
+/* sheets.c: writes the sheet's file to OUT and begins the reply. Returns the exit status. */
 int write_sheet(Desk *desk, const Sheet *sheet);
+
+/* sheets.c: tells how large the sheet is that was written, and where. */
+void tell_written_sheet(Desk *desk, const Sheet *sheet);
+
+/* sheets.c: both. */
+int write_and_tell(Desk *desk, const Sheet *sheet);
 
 /* questions.c: 'undetermined', 'granted', 'banned', 'both'. */
 const char *answer_name(uint32_t value);
@@ -148,6 +166,7 @@ int redundant(Desk *desk);
 int find(Desk *desk);
 int join(Desk *desk);
 int take(Desk *desk);
+int add(Desk *desk);
 int read_listing(Desk *desk);
 int list(Desk *desk);
 int show(Desk *desk);

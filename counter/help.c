@@ -35,6 +35,7 @@ void print_help(void)
     fputs("\nFILE, FIRST and SECOND are sheets' files, LISTING is a text's; '-' is standard input. OUT is the file to write.\n"
           "OFFICE, PERSON, CATEGORY, DEED and FOLIO are numbers from 0 to 4294967295.\n"
           "RULE is 1 or grant-first, 2 or deny-first, 3 or first-applicable.\n"
+          "LINE is a line of a listing, in quotes. OFFICES are office numbers with commas, as 1,2.\n"
           "\nOptions:\n"
           "  --json     before the verb: print one JSON object instead of text\n"
           "  --help     print this, or after a verb what it tells, with an example\n"

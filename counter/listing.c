@@ -13,7 +13,7 @@ int read_listing(Desk *desk)
         return BAD_USAGE;
     TormukaiListing told = tormukai_read_listing(text->bytes, text->length, typed.words, TORMUKAI_SHEET_WORDS);
     typed.length = told.count;
-    int status = told.number != 0 && refused_listing(desk, told) ? REFUSED : write_sheet(desk, &typed);
+    int status = told.number != 0 && refused_listing(desk, told) ? REFUSED : write_and_tell(desk, &typed);
     free(text->bytes);
     return status;
 }

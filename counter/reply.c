@@ -4,18 +4,19 @@
 #include <string.h>
 
 /* Row 0 is a row for these numbers alone; for the others a row of 0 is no place. */
-static bool has_row(uint32_t number)
+static bool is_of_row(uint32_t number)
 {
     return TORMUKAI_REFUSED_NODE_TYPE <= number && number <= TORMUKAI_REFUSED_EDGE_ORDER;
 }
 
+/* A row that is to be added stands in no sheet yet, and has no place. */
 static void say_place(Writer *out, TormukaiRefusal refusal)
 {
-    if (refusal.sheet != 0) {
-        say(out, " at sheet ");
-        say_number(out, refusal.sheet);
-    }
-    if (has_row(refusal.number)) {
+    if (refusal.sheet == 0)
+        return;
+    say(out, " at sheet ");
+    say_number(out, refusal.sheet);
+    if (is_of_row(refusal.number)) {
         say(out, " row ");
         say_number(out, refusal.row);
     }
@@ -43,24 +44,31 @@ static void tell_sentence(Writer *out, uint32_t number, uint32_t sheet, size_t r
     tell_word(out, "text", tormukai_refusal_text(number));
 }
 
-static void end_refusal(Writer *out)
+void tell_refusal(Desk *desk, TormukaiRefusal refusal)
 {
-    say(out, "\n");
-    close_object(out);
+    Writer *out = &desk->out;
+    begin_reply(desk);
+    begin_refusal(out, refusal.number);
+    say_place(out, refusal);
+    tell_sentence(out, refusal.number, refusal.sheet, refusal.row);
+}
+
+int end_refusal(Desk *desk)
+{
+    say(&desk->out, "\n");
+    close_object(&desk->out);
+    return REFUSED;
 }
 
 bool refused(Desk *desk, TormukaiRefusal refusal)
 {
-    Writer *out = &desk->out;
-    begin_reply(desk);
     if (refusal.number == 0) {
-        note_null(out, "refusal");
+        begin_reply(desk);
+        note_null(&desk->out, "refusal");
         return false;
     }
-    begin_refusal(out, refusal.number);
-    say_place(out, refusal);
-    tell_sentence(out, refusal.number, refusal.sheet, refusal.row);
-    end_refusal(out);
+    tell_refusal(desk, refusal);
+    end_refusal(desk);
     return true;
 }
 
@@ -87,7 +95,7 @@ static void tell_note(Writer *out, const char *note)
 #define AS_TEXT(number) #number
 #define FIRST_BYTES(number) "its first " AS_TEXT(number) " bytes"
 
-static void tell_line(Writer *out, Line line)
+void tell_line(Writer *out, Line line)
 {
     bool cut = line.length > SHOWN;
     say(out, ": \"");
@@ -112,7 +120,7 @@ bool refused_listing(Desk *desk, TormukaiListing told)
     note_bytes(out, "file", text->name, strlen(text->name));
     note_number(out, "line", told.row + 1);
     tell_line(out, line_at(text, told.row));
-    end_refusal(out);
+    end_refusal(desk);
     return true;
 }
 

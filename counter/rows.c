@@ -60,6 +60,11 @@ Edge edge_at(const Sheet *sheet, uint32_t row)
     return (Edge){row, words[KIND], words[FROM], words[TO], words[OFFICES]};
 }
 
+TormukaiAnswer place_of(const Sheet *sheet, Identity identity)
+{
+    return tormukai_find_node(sheet->words, sheet->length, identity.type, identity.number, identity.variant);
+}
+
 bool has_office(uint32_t offices, uint32_t office)
 {
     return (offices >> (office - 1) & 1) != 0;

@@ -38,6 +38,9 @@ uint32_t edge_count(const Sheet *sheet);
 Node node_at(const Sheet *sheet, uint32_t row);
 Edge edge_at(const Sheet *sheet, uint32_t row);
 
+/* Where the identity stands (value 1) or would stand (value 0): the node row is the count. */
+TormukaiAnswer place_of(const Sheet *sheet, Identity identity);
+
 /* Whether the sum of marks has the office's. Offices count from 1. */
 bool has_office(uint32_t offices, uint32_t office);
 

@@ -1,4 +1,4 @@
-/* The verbs on whole sheets: the check, every row in words, the lookup, joining and taking out. */
+/* The verbs on whole sheets: the check, every row in words, the lookup, joining and taking out. How a result is written. */
 #include "desk.h"
 
 /* The file of a result. */
@@ -68,6 +68,21 @@ static TormukaiRefusal open_and_check(const File *file, Sheet *sheet, uint32_t w
     return refusal;
 }
 
+/* Neither sheet has the identity: where would each have it? */
+static int refuse_unfound(Desk *desk, const Sheet *sheets, TormukaiRefusal refusal)
+{
+    Writer *out = &desk->out;
+    tell_refusal(desk, refusal);
+    open_list(out, "would_stand");
+    say(out, "\nit would stand at node ");
+    tell_number(out, NULL, place_of(&sheets[0], desk->asked.identity).count);
+    say(out, " of the first sheet, node ");
+    tell_number(out, NULL, place_of(&sheets[1], desk->asked.identity).count);
+    say(out, " of the second");
+    close_list(out);
+    return end_refusal(desk);
+}
+
 /* The first sheet is checked wholly before the second, also before the second's 33. */
 int find(Desk *desk)
 {
@@ -83,6 +98,8 @@ int find(Desk *desk)
                                 asked.number, asked.variant);
         refusal = refusal_of(told);
     }
+    if (refusal.number == TORMUKAI_REFUSED_IN_NEITHER_SHEET)
+        return refuse_unfound(desk, sheets, refusal);
     if (refused(desk, refusal))
         return REFUSED;
     say(out, told.value == 1 ? "first sheet, " : "second sheet, ");
@@ -128,18 +145,28 @@ int join(Desk *desk)
 
 int write_sheet(Desk *desk, const Sheet *sheet)
 {
-    Writer *out = &desk->out;
     TormukaiRefusal refusal = tormukai_file_of_words(sheet->words, sheet->length, bytes, sizeof bytes);
     if (refusal.number == 0 && !write_result(desk->asked.result, bytes, 4 * sheet->length))
         return UNWRITTEN;
-    if (refused(desk, refusal))
-        return REFUSED;
+    return refused(desk, refusal) ? REFUSED : ANSWERED;
+}
+
+void tell_written_sheet(Desk *desk, const Sheet *sheet)
+{
+    Writer *out = &desk->out;
     say(out, "nodes ");
     tell_number(out, "nodes", node_count(sheet));
     say(out, "\nedges ");
     tell_number(out, "edges", edge_count(sheet));
     tell_written(desk, sheet->length);
-    return ANSWERED;
+}
+
+int write_and_tell(Desk *desk, const Sheet *sheet)
+{
+    int status = write_sheet(desk, sheet);
+    if (status == ANSWERED)
+        tell_written_sheet(desk, sheet);
+    return status;
 }
 
 int take(Desk *desk)
@@ -150,5 +177,5 @@ int take(Desk *desk)
     taken.length = told.count;
     if (told.number != 0 && refused(desk, refusal_of(told)))
         return REFUSED;
-    return write_sheet(desk, &taken);
+    return write_and_tell(desk, &taken);
 }

@@ -69,8 +69,8 @@ const Verb verbs[] = {
      "edge 4: category 21 grants deed 32/0, office 1\n"},
     {"find", {FIRST, SECOND, TYPE_OF_NODE, IDENTITY}, 0, find, {32},
      "where an identity stands in two sheets",
-     "Tells which sheet has the identity, the first where both have it, with its row and its offices. Without /VARIANT the\n"
-     "variant is 0.\n",
+     "Tells which sheet has the identity, the first where both have it, with its row and its offices. Where neither has it,\n"
+     "tells where it would stand in each. Without /VARIANT the variant is 0.\n",
      "b.sheet a.sheet deed 31/1",
      "second sheet, node 4: deed 31/1, office 1\n"},
     {"join", {FIRST, SECOND, RESULT}, 0, join, {28, 29, 30},
@@ -85,6 +85,14 @@ const Verb verbs[] = {
      "After a refusal it is as it was.\n",
      "joint.sheet 2 out.sheet",
      "nodes 4\nedges 3\nwritten: out.sheet\n"},
+    {"add", {SHEET, RESULT, LINE, OFFICES}, 1, add, {40, 41, 8, 9, 12, 14, 15, 16, 4},
+     "add one row to a sheet",
+     "Writes the sheet with one row more to OUT, and tells where the row stands. LINE is a line of a listing, in quotes:\n"
+     "`counter read --help` has the nine. An edge's ends have to be in the sheet. OFFICES are the offices that say so. On a\n"
+     "sheet of one office they may be left out. OUT may be FILE: it is replaced only when the whole result is written. After\n"
+     "a refusal it is as it was.\n",
+     "a.sheet out.sheet 'grant 22 31/2'",
+     "edge 4: category 22 grants deed 31/2, office 1\nnodes 8\nedges 8\nwritten: out.sheet\n"},
     {"read", {LISTING, RESULT}, 0, read_listing, {40, 41, 42, 14, 43, 4},
      "write the sheet of a typed listing",
      "Reads a listing, a text with one row a line in any order, and writes its sheet of one office to OUT. The nine lines:\n"

@@ -1,4 +1,4 @@
-/* Numbers, identities and paths as a desk types them. */
+/* Numbers, identities, offices and paths as a desk types them. */
 #include "arguments.h"
 
 #include <ctype.h>
@@ -33,6 +33,22 @@ bool read_identity(const char *word, Identity *identity)
     if (rest == NULL)
         return false;
     return *rest == '\0' || (*rest == '/' && read_number(rest + 1, &identity->variant));
+}
+
+/* A mark is a bit of a word, so there can be no more offices than bits. Which of them a sheet has is the library's to say. */
+bool read_offices(const char *word, uint32_t *offices)
+{
+    *offices = 0;
+    for (;;) {
+        uint32_t office;
+        word = after_number(word, &office);
+        if (word == NULL || office < 1 || office > 32 || has_office(*offices, office))
+            return false;
+        *offices += UINT32_C(1) << (office - 1);
+        if (*word != ',')
+            return *word == '\0';
+        word++;
+    }
 }
 
 /* What may come next in a path: a node, with its type or without; only the number of a node whose type was typed; or, after a

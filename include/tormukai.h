@@ -11,8 +11,10 @@
  * A REFUSAL has the number of the table of refusals (docs/RULES.md) and a place. What is wrong with a sheet or its file, which
  * is 33, 1 to 17 and 28, has the sheet (1 where there is one sheet), and for 6 to 17 also the row's index in its table, from 0.
  * What is wrong with a line of a listing, which is 40 to 43 and there also 14, has sheet 0 and as row the line, counted from 0.
- * Every other part of a refused result is 0, and nothing is written. Where several numbers apply, it is the first in the
- * table's order, and each comment below names them in it.
+ * What is wrong with a row that is to be added, which is 6 to 9, 11 to 16 and 4, has no place: sheet 0 and row 0. So a row is
+ * meant only where there is a sheet, or a line. Every other part of a refused result is 0, and nothing is written. Where
+ * several numbers apply, it is the first in the table's order but for listings and additions, and each comment below names
+ * them in the order in which they are tried.
  *
  * A SUCCESS has number, sheet and row 0. It writes the words (or bytes) of its result from the output's start, and leaves
  * the rest of the output as it was. An empty list is a success of count 0.
@@ -32,7 +34,7 @@ extern "C" {
 #endif
 
 /* The library's version. */
-#define TORMUKAI_VERSION "0.4.0"
+#define TORMUKAI_VERSION "0.5.0"
 
 /* The longest sheet, in words and in bytes of its file: 6 + 4 * 512 + 4 * 2048 words. */
 #define TORMUKAI_SHEET_WORDS 10246
@@ -68,6 +70,17 @@ extern "C" {
 #define TORMUKAI_EDGE_BAN 4
 #define TORMUKAI_EDGE_APPLIES 5
 
+/* The nine lines of a listing. */
+#define TORMUKAI_LINE_PERSON 1
+#define TORMUKAI_LINE_CATEGORY 2
+#define TORMUKAI_LINE_DEED 3
+#define TORMUKAI_LINE_FOLIO 4
+#define TORMUKAI_LINE_IN 5
+#define TORMUKAI_LINE_WITHIN 6
+#define TORMUKAI_LINE_GRANT 7
+#define TORMUKAI_LINE_BAN 8
+#define TORMUKAI_LINE_APPLIES 9
+
 /* Answers. */
 #define TORMUKAI_UNDETERMINED 0
 #define TORMUKAI_GRANTED 1
@@ -84,7 +97,7 @@ extern "C" {
 #define TORMUKAI_BAN 1
 
 /* Refusal numbers, in the order in which they are tried. Of a listing each line is tried by itself, and 43, 4 and 25 come after
- * the last line. */
+ * the last line. Of a row that is to be added 4 comes after all that is wrong with the row. */
 #define TORMUKAI_REFUSED_LISTING_LINE 40
 #define TORMUKAI_REFUSED_LISTING_NUMBER 41
 #define TORMUKAI_REFUSED_LISTING_REPEATED 42
@@ -159,6 +172,16 @@ typedef struct TormukaiListing {
     size_t count;
 } TormukaiListing;
 
+/* What one line of a listing says: fault 0, which of the nine it is (TORMUKAI_LINE_PERSON to TORMUKAI_LINE_APPLIES), and its
+ * numbers in the order in which they stand, 0 where there are fewer; or fault 40 or 41, and 0 throughout. */
+typedef struct TormukaiLine {
+    uint32_t fault;
+    uint32_t form;
+    uint32_t first;
+    uint32_t second;
+    uint32_t third;
+} TormukaiLine;
+
 /* The sentence of the table of refusals for a number, as "unknown person" for 21; for a number that is not in the table a
  * sentence that says so. The text is English, has no line end, and lives as long as the program. Refuses nothing.
  * Stack: at most 128 bytes. */
@@ -190,7 +213,7 @@ TormukaiAnswer tormukai_answer(const uint8_t *file, size_t file_length, uint32_t
 /* Question 2: the joint answer of all the sheet's offices under rule 1 grant-first, 2 deny-first or 3 first-applicable.
  * Answers: value as in question 1; count the deciding office, 0 where undetermined. Writes: nothing.
  * Refuses with: 33, 1 to 17, 27, 21, 22, 23.
- * Stack: at most 56,320 bytes. */
+ * Stack: at most 56,832 bytes. */
 TormukaiAnswer tormukai_joint_answer(const uint8_t *file, size_t file_length, uint32_t rule, uint32_t person, uint32_t deed,
                                      uint32_t folio);
 
@@ -243,7 +266,7 @@ TormukaiAnswer tormukai_sheet_witness(const uint32_t *sheet, size_t sheet_length
 /* Question 4: is the list some grant path (kind 0) or ban path (any other) for person, deed and folio at an office, shortest
  * or not? Two words a node, as question 3 writes them.
  * Answers: value 1 yes, 0 no. Writes: nothing. Refuses with: 1 to 17, 20; whatever else is wrong is a no.
- * Stack: at most 512 bytes. */
+ * Stack: at most 640 bytes. */
 TormukaiAnswer tormukai_is_path(const uint32_t *sheet, size_t sheet_length, uint32_t office, uint32_t kind, uint32_t person,
                                 uint32_t deed, uint32_t folio, const uint32_t *list, size_t list_length);
 
@@ -296,7 +319,7 @@ TormukaiJoined tormukai_join(const uint32_t *first, size_t first_length, const u
 
 /* Takes an office out of a sheet: its rows alone, their ends renumbered, as a sheet of one office.
  * Answers: count the words written. Writes: that sheet. Refuses with: 1 to 17, 20, 25.
- * Stack: at most 5,632 bytes. */
+ * Stack: at most 5,120 bytes. */
 TormukaiAnswer tormukai_take_out(const uint32_t *sheet, size_t sheet_length, uint32_t office, uint32_t *out,
                                  size_t out_length);
 
@@ -314,6 +337,43 @@ TormukaiAnswer tormukai_look_up(const uint32_t *first, size_t first_length, cons
  * Stack: at most 512 bytes. */
 TormukaiRefusal tormukai_look_up_refusal(const uint32_t *first, size_t first_length, const uint32_t *second,
                                          size_t second_length, uint32_t type, uint32_t number, uint32_t variant);
+
+/* Where does the identity of this type (1 person, 2 category, 3 deed, 4 folio), number and variant stand in a sheet, or where
+ * would it stand? Any numbers may be asked for, also those that no row can have.
+ * Answers: value 1 where it stands and 0 where it does not; count the node row at which it stands or would stand, from 0, which
+ * is the number of node rows with a lower identity. Writes: nothing. Refuses with: 1 to 17.
+ * Stack: at most 384 bytes. */
+TormukaiAnswer tormukai_find_node(const uint32_t *sheet, size_t sheet_length, uint32_t type, uint32_t number,
+                                  uint32_t variant);
+
+/* Where does the edge of this kind between two node rows stand in a sheet, or where would it stand? Any numbers may be asked
+ * for, also those that no row can have.
+ * Answers: value 1 where it stands and 0 where it does not; count the edge row at which it stands or would stand, from 0, which
+ * is the number of edge rows that are lower by kind, from and to. Writes: nothing. Refuses with: 1 to 17.
+ * Stack: at most 384 bytes. */
+TormukaiAnswer tormukai_find_edge(const uint32_t *sheet, size_t sheet_length, uint32_t kind, uint32_t from, uint32_t to);
+
+/* ---- Adding a row ---- */
+
+/* Adds a node to a sheet, at the row that tormukai_find_node tells. The ends of the edges are renumbered, so that every other
+ * row keeps its identity or its relation, and its offices. Offices is a sum of 1 (office 1) and 2 (office 2).
+ * Answers: value the node row at which it stands; count the words written, four more than the sheet has. Writes: the sheet
+ * with that row more. It passes tormukai_check.
+ * Refuses with: 1 to 17 of the sheet, with their places; then, of the row and at no place, 6, 7, 8, 9 (its identity is already
+ * there, whatever its offices), 4 (there are 512 nodes already), 25.
+ * Stack: at most 5,632 bytes. */
+TormukaiAnswer tormukai_add_node(const uint32_t *sheet, size_t sheet_length, uint32_t type, uint32_t number, uint32_t variant,
+                                 uint32_t offices, uint32_t *out, size_t out_length);
+
+/* Adds an edge to a sheet, at the row that tormukai_find_edge tells. Its ends are node rows of the sheet. Every other row stays
+ * as it is. Offices is as for a node.
+ * Answers: value the edge row at which it stands; count the words written, four more than the sheet has. Writes: the sheet
+ * with that row more. It passes tormukai_check.
+ * Refuses with: 1 to 17 of the sheet, with their places; then, of the row and at no place, 11, 12 (an end is no node row), 13,
+ * 14, 15, 16 (it is already there, whatever its offices), 4 (there are 2,048 edges already), 25.
+ * Stack: at most 5,632 bytes. */
+TormukaiAnswer tormukai_add_edge(const uint32_t *sheet, size_t sheet_length, uint32_t kind, uint32_t from, uint32_t to,
+                                 uint32_t offices, uint32_t *out, size_t out_length);
 
 /* ---- Listings ---- */
 
@@ -342,6 +402,13 @@ TormukaiListing tormukai_read_listing(const uint8_t *text, size_t text_length, u
  * bytes; with TORMUKAI_LISTING_BYTES it does not occur).
  * Stack: at most 640 bytes. */
 TormukaiListing tormukai_write_listing(const uint32_t *sheet, size_t sheet_length, uint8_t *out, size_t out_length);
+
+/* What does one line of a listing say? The line comes without its line feed: with one it is none of the nine.
+ * Answers: `grant 22 31/1` is TORMUKAI_LINE_GRANT with 22, 31 and 1; a deed's variant follows its number. Writes: nothing.
+ * Refuses, as fault, with: 40 (none of the nine), 41 (a number that is 0, has a leading zero or is above 4,294,967,295; a
+ * variant may be 0).
+ * Stack: at most 512 bytes. */
+TormukaiLine tormukai_read_line(const uint8_t *line, size_t line_length);
 
 #ifdef __cplusplus
 }

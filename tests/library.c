@@ -167,6 +167,66 @@ static void two_sheets(void)
     say_refusal("look_up_refusal, a person", tormukai_look_up_refusal(second, b, first, n, TORMUKAI_PERSON, 41, 0));
 }
 
+static void searches(void)
+{
+    const uint32_t most = 4294967295;
+    say("find_node", tormukai_find_node(first, n, TORMUKAI_CATEGORY, 22, 0), 1);
+    say("find_node, not there", tormukai_find_node(first, n, TORMUKAI_DEED, 31, 0), 1);
+    say("find_node, before all", tormukai_find_node(first, n, 0, 0, 0), 1);
+    say("find_node, behind all", tormukai_find_node(first, n, most, most, most), 1);
+    say("find_edge", tormukai_find_edge(first, n, TORMUKAI_EDGE_GRANT, 3, 4), 1);
+    say("find_edge, not there", tormukai_find_edge(first, n, TORMUKAI_EDGE_GRANT, 3, 5), 1);
+    say("find_edge, before all", tormukai_find_edge(first, n, 0, most, most), 1);
+    say("find_edge, behind all", tormukai_find_edge(first, n, TORMUKAI_EDGE_APPLIES, most, 0), 1);
+}
+
+static TormukaiAnswer add_node(uint32_t type, uint32_t number, uint32_t variant, uint32_t offices, size_t room)
+{
+    return tormukai_add_node(first, n, type, number, variant, offices, out, room);
+}
+
+static TormukaiAnswer add_edge(uint32_t kind, uint32_t from, uint32_t to, uint32_t offices, size_t room)
+{
+    return tormukai_add_edge(first, n, kind, from, to, offices, out, room);
+}
+
+/* Each refusal by a row that has the next fault too, and in an output that is too short. */
+static void additions(void)
+{
+    say("add_node", add_node(TORMUKAI_PERSON, 13, 0, 1, n + 4), n + 5);
+    say("add_node, a word short", add_node(TORMUKAI_PERSON, 13, 0, 1, n + 3), 1);
+    say("add_node, no type", add_node(5, 0, 0, 0, 0), 1);
+    say("add_node, no number", add_node(TORMUKAI_DEED, 0, 1, 0, 0), 1);
+    say("add_node, no variant", add_node(TORMUKAI_FOLIO, 41, 1, 2, 0), 1);
+    say("add_node, no office", add_node(TORMUKAI_PERSON, 11, 0, 0, 0), 1);
+    say("add_node, office 2", add_node(TORMUKAI_PERSON, 11, 0, 2, 0), 1);
+    say("add_node, already there", add_node(TORMUKAI_PERSON, 11, 0, 1, 0), 1);
+    say("add_edge", add_edge(TORMUKAI_EDGE_GRANT, 3, 5, 1, n + 4), n + 5);
+    say("add_edge, a word short", add_edge(TORMUKAI_EDGE_GRANT, 3, 5, 1, n + 3), 1);
+    say("add_edge, no kind", add_edge(6, 8, 8, 0, 0), 1);
+    say("add_edge, no row", add_edge(TORMUKAI_EDGE_MEMBER, 0, 8, 0, 0), 1);
+    say("add_edge, no types", add_edge(TORMUKAI_EDGE_WITHIN, 0, 0, 0, 0), 1);
+    say("add_edge, within itself", add_edge(TORMUKAI_EDGE_WITHIN, 2, 2, 0, 0), 1);
+    say("add_edge, no office", add_edge(TORMUKAI_EDGE_MEMBER, 0, 2, 0, 0), 1);
+    say("add_edge, office 2", add_edge(TORMUKAI_EDGE_MEMBER, 0, 2, 2, 0), 1);
+    say("add_edge, already there", add_edge(TORMUKAI_EDGE_MEMBER, 0, 2, 1, 0), 1);
+}
+
+/* 256 persons and 256 categories, and each person in eight of them: as many nodes and edges as a sheet can have. */
+static void additions_to_full(void)
+{
+    static uint32_t full[TORMUKAI_SHEET_WORDS] = {1, 1, TORMUKAI_NODES, TORMUKAI_EDGES, 6, 6 + 4 * TORMUKAI_NODES};
+    const size_t length = LENGTH(full);
+    for (uint32_t i = 0; i < TORMUKAI_NODES; i++)
+        memcpy(full + 6 + 4 * i, (uint32_t[]){1 + i / 256, 1 + i % 256, 0, 1}, 16);
+    for (uint32_t i = 0; i < TORMUKAI_EDGES; i++)
+        memcpy(full + 6 + 4 * (TORMUKAI_NODES + i), (uint32_t[]){1, i / 8, 256 + i % 8, 1}, 16);
+    say("add_node, full", tormukai_add_node(full, length, TORMUKAI_FOLIO, 1, 0, 1, out, 0), 1);
+    say("add_node, full, already there", tormukai_add_node(full, length, TORMUKAI_PERSON, 1, 0, 1, out, 0), 1);
+    say("add_edge, full", tormukai_add_edge(full, length, TORMUKAI_EDGE_WITHIN, 256, 257, 1, out, 0), 1);
+    say("add_edge, full, already there", tormukai_add_edge(full, length, TORMUKAI_EDGE_MEMBER, 0, 256, 1, out, 0), 1);
+}
+
 /* The listing of the second sheet, from its end to its start: 80 bytes. */
 static const char typed[] = "applies 31/2 42\ngrant 21 31/2\nin 11 21\nfolio 42\ndeed 31/2\ncategory 21\nperson 11\n";
 
@@ -175,7 +235,7 @@ static TormukaiListing read_text(const char *text, size_t length, size_t room)
     return tormukai_read_listing((const uint8_t *)text, length, out, room);
 }
 
-static TormukaiListing read_line(const char *text)
+static TormukaiListing read_whole(const char *text)
 {
     return read_text(text, strlen(text), 0);
 }
@@ -188,15 +248,38 @@ static void listings(void)
     say_listing("read_listing, no bytes", read_text(typed, 0, 6), 7);
     say_listing("read_listing, no line feed", read_text(typed, length - 1, b), 1);
     say_listing("read_listing, a word short", read_text(typed, length, b - 1), 1);
-    say_listing("read_listing, no line", read_line("person 11\nperson 0x\n"), 1);
-    say_listing("read_listing, no number", read_line("person 11\nperson 0\nx\n"), 1);
-    say_listing("read_listing, a row twice", read_line("person 11\nperson 12\nperson 11\n"), 1);
-    say_listing("read_listing, within itself", read_line("category 21\nwithin 21 21\n"), 1);
-    say_listing("read_listing, no node", read_line("person 11\nin 11 21\n"), 1);
+    say_listing("read_listing, no line", read_whole("person 11\nperson 0x\n"), 1);
+    say_listing("read_listing, no number", read_whole("person 11\nperson 0\nx\n"), 1);
+    say_listing("read_listing, a row twice", read_whole("person 11\nperson 12\nperson 11\n"), 1);
+    say_listing("read_listing, within itself", read_whole("category 21\nwithin 21 21\n"), 1);
+    say_listing("read_listing, no node", read_whole("person 11\nin 11 21\n"), 1);
     say_listing("write_listing", tormukai_write_listing(second, b, out_bytes, 80), 21);
     say_listing("write_listing, a byte short", tormukai_write_listing(second, b, out_bytes, 79), 1);
     say_listing("write_listing, two offices", tormukai_write_listing(joint, 70, out_bytes, 0), 1);
     say_listing("write_listing, damaged", tormukai_write_listing(damaged, n, out_bytes, 0), 1);
+}
+
+static void say_line(const char *line, size_t length)
+{
+    TormukaiLine l = tormukai_read_line((const uint8_t *)line, length);
+    printf("read_line, %zu bytes: %" PRIu32 " %" PRIu32, length, l.fault, l.form);
+    printf(" %" PRIu32 " %" PRIu32 " %" PRIu32 "\n", l.first, l.second, l.third);
+}
+
+/* The last three: a line of which fewer bytes are lent, one with its line feed, and none. */
+static void single_lines(void)
+{
+    static const char *const lines[] = {
+        "person 11", "category 21", "deed 31/1", "folio 41",
+        "in 11 21", "within 21 22", "grant 22 31/1", "ban 21 31/2", "applies 31/1 41",
+        "deed 31/0", "applies 4294967295/4294967294 4294967293", "within 21 21",
+        "person 0", "deed 31/4294967296", "grant 0 31", "x",
+    };
+    for (size_t i = 0; i < LENGTH(lines); i++)
+        say_line(lines[i], strlen(lines[i]));
+    say_line("person 11", 8);
+    say_line("person 11\n", 10);
+    say_line("person 11", 0);
 }
 
 /* One line more than a sheet can have of nodes. */
@@ -226,6 +309,10 @@ static void damages(void)
     say("redundant_edges, damaged", tormukai_redundant_edges(damaged, n, 9, out, 0), 1);
     say("take_out, damaged", tormukai_take_out(damaged, n, 9, out, 0), 1);
     say("look_up, damaged", tormukai_look_up(damaged, n, damaged, 0, 9, 0, 0), 1);
+    say("find_node, damaged", tormukai_find_node(damaged, n, 9, 0, 0), 1);
+    say("find_edge, damaged", tormukai_find_edge(damaged, n, 9, 0, 0), 1);
+    say("add_node, damaged", tormukai_add_node(damaged, n, 9, 0, 0, 0, out, 0), 1);
+    say("add_edge, damaged", tormukai_add_edge(damaged, n, 9, 0, 0, 0, out, 0), 1);
     say_joined("join, damaged", tormukai_join(first, n, damaged, n, out, 0), 1);
     say_refusal("look_up_refusal, damaged", tormukai_look_up_refusal(first, n, damaged, n, 9, 0, 0));
 }
@@ -291,7 +378,11 @@ int main(void)
     questions_of_a_sheet();
     lists();
     two_sheets();
+    searches();
+    additions();
+    additions_to_full();
     listings();
+    single_lines();
     large_listing();
     damages();
     texts();

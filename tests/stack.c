@@ -1,8 +1,8 @@
 /* How much stack an entry of the header takes: stack NAME BYTES; without words it prints the names.
  * The entry is called on a stack of its own of just so many bytes, painted before, with a page below it that may not be touched:
- * an entry that needs more ends the program by a fault. It is called on full sheets and on damaged ones, on their listings
- * and on wrong ones, for what there is and for what there is not. Printed is the most that any call changed of the paint, the call itself included, then how many
- * calls were answered and how many refused. */
+ * an entry that needs more ends the program by a fault. It is called on full sheets, on one with room for a row and on damaged
+ * ones, on their listings and on wrong ones, for what there is and for what there is not. Printed is the most that any call
+ * changed of the paint, the call itself included, then how many calls were answered and how many refused. */
 #define _DEFAULT_SOURCE /* MAP_ANONYMOUS */
 #include "tormukai.h"
 
@@ -124,6 +124,18 @@ static void make_full(Sheet *sheet, Shape shape, uint32_t base, uint32_t office_
     sheet->bytes = 4 * length;
 }
 
+/* A full sheet of one office without its last node, which no edge has for an end, and without its last edge: a row of each can
+ * be added. */
+static void make_short(Sheet *sheet, const Sheet *full)
+{
+    const uint32_t nodes = TORMUKAI_NODES - 1;
+    const uint32_t header[] = {1, 1, nodes, TORMUKAI_EDGES - 1, 6, 6 + 4 * nodes};
+    memcpy(sheet->words, header, sizeof header);
+    memcpy(sheet->words + 6, full->words + 6, 16 * nodes);
+    memcpy(sheet->words + 6 + 4 * nodes, full->words + 6 + 4 * TORMUKAI_NODES, 16 * (TORMUKAI_EDGES - 1));
+    sheet->bytes = full->bytes - 2 * 16;
+}
+
 /* Each is a full sheet with one other word: wrong headers, nodes and edges, first rows and last ones. */
 static const struct {
     size_t at;
@@ -140,7 +152,7 @@ static const uint32_t sister_b[] = {1, 1, 4, 3, 6, 22, 1, 11, 0, 1, 2, 21, 0, 1,
                                     1, 4, 42, 0, 1, 1, 0, 1, 1, 3, 1, 2, 1, 5, 2, 3, 1};
 
 #define HIGH 4294966000
-enum { FULL = 6, SISTER_A = FULL, SISTER_B, CUT, LENGTHS = 6, DAMAGED = CUT + LENGTHS };
+enum { SHORT = 6, FULL = SHORT + 1, SISTER_A = FULL, SISTER_B, CUT, LENGTHS = 6, DAMAGED = CUT + LENGTHS };
 enum { SHEETS = DAMAGED + LENGTH(damages) };
 static Sheet sheets[SHEETS];
 
@@ -153,6 +165,7 @@ static void make_sheets(void)
     make_full(&sheets[3], DENSE, 1, 2, true);
     make_full(&sheets[4], RING, 1, 1, false);
     make_full(&sheets[5], CHAIN, HIGH, 1, true);
+    make_short(&sheets[SHORT], &sheets[0]);
     memcpy(sheets[SISTER_A].words, sister_a, sizeof sister_a);
     sheets[SISTER_A].bytes = sizeof sister_a;
     memcpy(sheets[SISTER_B].words, sister_b, sizeof sister_b);
@@ -290,8 +303,29 @@ ENTRY(take_out, WORDS_OF(first), asked->office, WORDS_OUT)
 ENTRY(look_up, WORDS_OF(first), WORDS_OF(second), 1, asked->person, 0)
 ENTRY(look_up_refusal, WORDS_OF(first), WORDS_OF(second), 1, asked->person, 0)
 
+/* A membership that no sheet has: row r of a full sheet has number r + 1. And a person whom no sheet has. */
+#define MEMBERSHIP 1, asked->person - 1, asked->category - 1
+ENTRY(find_node, WORDS_OF(first), 1, asked->person, 0)
+ENTRY(find_edge, WORDS_OF(first), MEMBERSHIP)
+ENTRY(add_node, WORDS_OF(first), 1, 1000 + asked->person, 0, 1, WORDS_OUT)
+ENTRY(add_edge, WORDS_OF(first), MEMBERSHIP, 1, WORDS_OUT)
+
 ENTRY(read_listing, LISTING_OF(first), WORDS_OUT)
 ENTRY(write_listing, WORDS_OF(first), LISTING_OUT)
+
+/* A listing's first line and, where that is right, its last. */
+static void call_read_line(void)
+{
+    const Listing *const listing = &listings[first - sheets];
+    const uint8_t *const end = memchr(listing->bytes, '\n', listing->length);
+    const size_t whole = listing->length - (listing->bytes[listing->length - 1] == '\n' ? 1 : 0);
+    size_t last = whole;
+    while (last > 0 && listing->bytes[last - 1] != '\n')
+        last--;
+    got = tormukai_read_line(listing->bytes, (size_t)(end - listing->bytes)).fault;
+    if (got == 0)
+        got = tormukai_read_line(listing->bytes + last, whole - last).fault;
+}
 
 static void call_refusal_text(void)
 {
@@ -317,7 +351,8 @@ static const struct {
     LISTED(check_file), LISTED(join_files), LISTED(check), LISTED(sheet_answer), LISTED(sheet_joint_answer),
     LISTED(sheet_witness), LISTED(is_path), LISTED(persons_in_category), LISTED(persons_with_grant),
     LISTED(folios_out_of_reach), LISTED(least_triple), LISTED(least_holder), LISTED(redundant_edges), LISTED(join),
-    LISTED(take_out), LISTED(look_up), LISTED(look_up_refusal), LISTED(read_listing), LISTED(write_listing), LISTED(known),
+    LISTED(take_out), LISTED(look_up), LISTED(look_up_refusal), LISTED(find_node), LISTED(find_edge), LISTED(add_node),
+    LISTED(add_edge), LISTED(read_listing), LISTED(write_listing), LISTED(read_line), LISTED(known),
 };
 
 /* ---- The painted stack ---- */
@@ -371,8 +406,8 @@ static void call_with(void (*call)(void), size_t one, size_t two, size_t questio
     *(got == 0 ? &answered : &refused) += 1;
 }
 
-/* Every question of every full sheet; of the others the first question alone. Then every sheet as the second of two, with what
- * stands in the first sheet alone and what stands in the second alone. */
+/* Every question of every full sheet and of that with room for a row; of the others the first question alone. Then every sheet
+ * as the second of two, with what stands in the first sheet alone and what stands in the second alone. */
 static void call_all(void (*call)(void))
 {
     for (size_t i = 0; i < SHEETS; i++)

@@ -103,6 +103,36 @@ def asked(model_verb, file, args):
     return outcome_of(lambda: getattr(model, model_verb)(model.read(file), *args))
 
 
+def some_line(rng, of):
+    """A line whose nodes the sheet may have or lack; now and then one with a fault."""
+    def name(type_, often):
+        known = [node.identity[1:] for node in of.nodes if node.type == type_]
+        number, variant = rng.choice(known) if known and rng.random() < often else (rng.randrange(1, 7), rng.randrange(4))
+        number = rng.choice((0, 4294967296, '01', '')) if rng.random() < 0.02 else number
+        return f'{number}/{variant}' if type_ == DEED else str(number)
+    if rng.random() < 0.4:
+        word, type_ = rng.choice(list(model.NODE_LINES.items()))
+        return f'{word.decode()} {name(type_, 0.3)}'
+    word, kind = rng.choice(list(model.EDGE_LINES.items()))
+    return ' '.join([word.decode(), *(name(type_, 0.9) for type_ in model.ENDS[kind])])
+
+
+def some_offices(rng, of):
+    """Mostly those that the sheet has."""
+    if rng.random() < 0.1:
+        return rng.choice(([2], [3], [1, 3], [3, 2, 1], [32]))
+    return [1] if of.offices == 1 else rng.choice(([1], [2], [1, 2], [2, 1]))
+
+
+def adds(room, label, rng, of, file, name):
+    """A row more. OFFICES is left out only where a right sheet has one office."""
+    line, offices = some_line(rng, of), some_offices(rng, of)
+    got = asked('add', file, [line.encode(), sum(model.mark(office) for office in offices)])
+    left_out = of.offices == 1 and offices == [1] and file == of.file() and rng.random() < 0.7
+    yield from writes(room, f'{label}: {line}', 'add', [name], *((got, None) if isinstance(got, Refused) else got),
+                      behind=[line] if left_out else [line, ','.join(map(str, offices))])
+
+
 def one_sheet(room, seed, hurt):
     """All verbs of one file, each in text or in JSON."""
     rng = random.Random(seed)
@@ -116,6 +146,8 @@ def one_sheet(room, seed, hurt):
     got = asked('take', file, [office])
     yield from writes(room, f'sheet {seed}', 'take', [name, office], *((got, None) if isinstance(got, Refused) else got))
     yield from drawn(f'sheet {seed}', name, file, office, rng)
+    for _ in range(3):
+        yield from adds(room, f'sheet {seed}', rng, of, file, name)
 
 
 def two_sheets(room, seed, hurt):

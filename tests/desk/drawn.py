@@ -32,7 +32,7 @@ def draw(label_, name, args):
     faults += differs('graph in JSON', text.rstrip('\n'), str(graph).rstrip('\n'))
     faults += differs('object', {'verb': 'draw', 'refusal': None, 'graph': graph}, told)
     if not faults:
-        SHOWN.update({('draw', 0, 'text'), ('draw', 0, 'JSON')})
+        SHOWN.update({('draw', 0, False, 'text'), ('draw', 0, False, 'JSON')})
     try:
         return Finding(label_, faults), read_graph(text)
     except (ValueError, KeyError) as fault:

@@ -119,12 +119,13 @@ def status_of(outcome):
     return 1 if isinstance(outcome, Refused) else 0
 
 
-SHOWN = set()  # (verb, refusal number or 0, form) of every question that was answered as wanted
+SHOWN = set()  # (verb, refusal number or 0, whether it has a sheet, form) of every question that was answered as wanted
 
 
 def shown(finding, verb, outcome, form):
     if not finding.fault:
-        SHOWN.add((verb, outcome.number if isinstance(outcome, Refused) else 0, form))
+        number, sheet = (outcome.number, outcome.sheet) if isinstance(outcome, Refused) else (0, 0)
+        SHOWN.add((verb, number, sheet != 0, form))
     return finding
 
 

@@ -22,14 +22,14 @@ SENTENCES = {
     6: 'node type',
     7: 'number 0, or variant on a non-deed',
     8: 'node offices',
-    9: 'node identity equal to the row before',
+    9: 'node identity equal to the row before, or already there',
     10: 'node identity lower than the row before',
     11: 'edge kind',
     12: 'an end not below n',
     13: "end types don't fit the kind",
     14: 'containment in itself',
     15: 'edge offices',
-    16: 'edge equal to the row before',
+    16: 'edge equal to the row before, or already there',
     17: 'edge lower than the row before',
     20: 'office number not 1 to the count',
     27: 'rule number',
@@ -61,21 +61,60 @@ class Refused(Exception):
 MOST_SHOWN = 60  # bytes of a line
 
 
-class RefusedLine(Refused):
-    """A refused line of a listing, which is shown: its row counts from 0, and its bytes have no line feed."""
+class RefusedTyping(Refused):
+    """A refused line, which is shown: an argument, or a listing's line at a row from 0. Its bytes have no line feed."""
 
-    def __init__(self, number, row, line, ended=True, file='-'):
+    def __init__(self, number, line, row=0, ended=True):
         super().__init__(number, 0, row)
-        self.line, self.ended, self.file = line, ended, file
+        self.line, self.ended = line, ended
 
     def note(self):
         if len(self.line) > MOST_SHOWN:
             return f'its first {MOST_SHOWN} bytes'
         return None if self.ended else 'no line feed'
 
+    def where(self):
+        return {}
+
     def fields(self):
-        return {**super().fields(), 'file': escaped(os.fsencode(self.file)), 'line': self.row + 1,
-                'shown': escaped(self.line[:MOST_SHOWN]), 'note': self.note()}
+        return {**super().fields(), **self.where(), 'shown': escaped(self.line[:MOST_SHOWN]), 'note': self.note()}
+
+
+class RefusedLine(RefusedTyping):
+    """A refused line of a listing's file."""
+
+    def __init__(self, number, row, line, ended=True, file='-'):
+        super().__init__(number, line, row, ended)
+        self.file = file
+
+    def where(self):
+        return {'file': escaped(os.fsencode(self.file)), 'line': self.row + 1}
+
+
+class Unfound(Refused):
+    """An identity that neither of two sheets has: the node rows at which it would stand."""
+
+    def __init__(self, first, second):
+        super().__init__(32)
+        self.rows = [first, second]
+
+    def fields(self):
+        return {**super().fields(), 'would_stand': self.rows}
+
+
+class NoEnd(Refused):
+    """An edge that can't be added, since these identities are not in the sheet."""
+
+    def __init__(self, *identities):
+        super().__init__(12)
+        self.identities = identities
+
+    def fields(self):
+        return {**super().fields(), 'missing': [identity_object(each) for each in self.identities]}
+
+
+def identity_object(of):
+    return {'type': TYPES[of[0]], 'number': of[1], 'variant': of[2]}
 
 
 def escaped(data):
@@ -128,13 +167,27 @@ def listed(lines):
     return list(lines) or ['none']
 
 
-def refusal(of):
+def place(of):
     if 'line' in of:
-        note = f" ({of['note']})" if of['note'] else ''
-        return f"refused {of['number']} at {of['file']}:{of['line']}: {of['text']}: \"{of['shown']}\"{note}"
-    place = f" at sheet {of['sheet']}" if of['sheet'] else ''
+        return f" at {of['file']}:{of['line']}"
     row = f" row {of['row']}" if 6 <= of['number'] <= 17 else ''
-    return f"refused {of['number']}{place}{row}: {of['text']}"
+    return f" at sheet {of['sheet']}{row}" if of['sheet'] else ''
+
+
+def shown_line(of):
+    note = f" ({of['note']})" if of.get('note') else ''
+    return f": \"{of['shown']}\"{note}" if 'shown' in of else ''
+
+
+def refusal(of):
+    """Its line, and what is told under it."""
+    lines = [f"refused {of['number']}{place(of)}: {of['text']}{shown_line(of)}"]
+    if 'would_stand' in of:
+        lines.append('it would stand at node {} of the first sheet, node {} of the second'.format(*of['would_stand']))
+    if 'missing' in of:
+        names = [identity(each) for each in of['missing']]
+        lines.append(f"{' and '.join(names)} {'is' if len(names) == 1 else 'are'} not in the sheet")
+    return lines
 
 
 def counts(of):
@@ -144,6 +197,10 @@ def counts(of):
 def shown(of):
     sizes = {**of, 'nodes': len(of['nodes']), 'edges': len(of['edges'])}
     return [f"form {of['form']}, {counts(sizes)}"] + [node(row) for row in of['nodes']] + [edge(row) for row in of['edges']]
+
+
+def sized(of):
+    return [f"nodes {of['nodes']}", f"edges {of['edges']}"]
 
 
 def decided(of):
@@ -165,8 +222,9 @@ TEXT = {
     'redundant': lambda of: listed(edge(each) for each in of['edges']),
     'find': lambda of: [f"{('first', 'second')[of['sheet'] - 1]} sheet, {node(of['node'])}"],
     'join': lambda of: [f"nodes {of['nodes']} shared {of['shared_nodes']}", f"edges {of['edges']} shared {of['shared_edges']}"],
-    'take': lambda of: [f"nodes {of['nodes']}", f"edges {of['edges']}"],
-    'read': lambda of: [f"nodes {of['nodes']}", f"edges {of['edges']}"],
+    'take': sized,
+    'add': lambda of: [node(of['node']) if 'node' in of else edge(of['edge'])] + sized(of),
+    'read': sized,
     'list': lambda of: of['listing'].split('\n')[:-1],
     'show': shown,
 }
@@ -174,7 +232,6 @@ TEXT = {
 
 def text(of, out=None):
     """The lines that say what the object says; OUT is named where a verb writes one."""
-    if of['refusal']:
-        return refusal(of['refusal']) + '\n'
-    lines = TEXT[of['verb']](of) + ([f'written: {out}'] if of['verb'] in ('join', 'take', 'read') else [])
+    written = [f'written: {out}'] if of['verb'] in ('join', 'take', 'add', 'read') else []
+    lines = refusal(of['refusal']) if of['refusal'] else TEXT[of['verb']](of) + written
     return ''.join(line + '\n' for line in lines)

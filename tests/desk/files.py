@@ -23,6 +23,7 @@ ONE_FILE = {
     'duties': ['1', '31', '31'],
     'redundant': ['1'],
     'take': ['1', 'out'],
+    'add': ['out', 'person 13'],
     'list': [],
     'show': [],
     'draw': ['1'],
@@ -40,6 +41,7 @@ WRONG = {
     'duties': ['9', '0', '0'],
     'redundant': ['9'],
     'take': ['9', 'out'],
+    'add': ['out', 'x', '32'],
     'draw': ['9', 'ban', '0', '0', '0'],
 }
 EMPTY, LENGTH, FORM = Refused(1, 1), Refused(33, 1), Refused(2, 1)

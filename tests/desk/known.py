@@ -6,7 +6,7 @@ from functools import partial
 
 from . import model
 from .drive import ask, counter, held, outcome_of, same
-from .expect import Refused, answered
+from .expect import Refused, Unfound, answered
 from .model import edge_object, node_object
 from .outputs import writes
 from .sheets import A, B, C, HARBOUR, JOINT, chain, crew, crowd, sheet
@@ -231,12 +231,17 @@ SOUGHT = [
     (EMPTY, JOINT, 'folio', '42', found(2, JOINT, 7)),
     (LARGE, EMPTY, 'deed', '2147483648/4294967295', found(1, LARGE, 3)),
     (crowd(512), crowd(512, 2), 'person', '513', found(2, crowd(512, 2), 511)),
-    (A, B, 'deed', '31', Refused(32)),
-    (A, B, 'deed', '31/3', Refused(32)),
-    (A, B, 'person', '41', Refused(32)),
-    (A, B, 'person', '11/1', Refused(32)),
-    (A, B, 'category', '0', Refused(32)),
-    (EMPTY, EMPTY, 'folio', '4294967295/4294967295', Refused(32)),
+    # Where it would stand: before the deeds, between them and behind them; between persons and behind them; before the categories.
+    (A, B, 'deed', '31', Unfound(4, 2)),
+    (B, C, 'deed', '31/3', Unfound(3, 6)),
+    (A, B, 'deed', '30/4294967295', Unfound(4, 2)),
+    (A, B, 'person', '41', Unfound(2, 1)),
+    (A, B, 'person', '11/1', Unfound(1, 1)),
+    (JOINT, B, 'person', '10', Unfound(0, 0)),
+    (A, B, 'category', '0', Unfound(2, 1)),
+    (JOINT, EMPTY, 'folio', '43', Unfound(8, 0)),
+    (EMPTY, EMPTY, 'folio', '4294967295/4294967295', Unfound(0, 0)),
+    (crowd(512), crowd(512, 2), 'person', '514', Unfound(512, 512)),
 ]
 
 BOATS, BERTHS = crew(256, 8, 2048), sheet([(2, 1, 0), (2, 2, 0)], [(2, 0, 1)])
@@ -296,6 +301,9 @@ def model_agrees():
         yield same(f'the model: {label}', told(outcome), told(outcome_of(getattr(model, verb), of, *asked)))
     for label, of, args, words, outcome in TYPED:
         yield same(f'the model: {label}', told(outcome), told(outcome_of(model.path, of, *args, nodes_of(words))))
+    for first, second, type_, typed, outcome in SOUGHT:
+        got = outcome_of(model.find, first, second, *nodes_of([type_, typed])[0])
+        yield same(f'the model: {type_} {typed}', told(outcome), told(got))
     for label, first, second, outcome in JOINED:
         got = outcome_of(model.join, first, second)
         yield same(f'the model: {label}', told(outcome), told(got if isinstance(got, Refused) else got[0]))
@@ -376,3 +384,8 @@ def lines(file):
             (('conflict', file(C), '1'), 'person 11, deed 31, folio 42\n'),
             (('persons', file(A), '1', '22'), 'person 11\nperson 12\n')):
         yield held(f'{args[0]}, line by line', counter(*args), 0, out)
+    unfound = 'find', file(A), file(B), 'person', '13'
+    yield held('an identity in neither sheet', counter(*unfound), 1, 'refused 32: identity in neither sheet\n'
+               'it would stand at node 2 of the first sheet, node 1 of the second\n')
+    yield held('an identity in neither sheet, in JSON', counter('--json', *unfound), 1, '{"verb":"find","refusal":{"number":32,'
+               '"sheet":0,"row":0,"text":"identity in neither sheet","would_stand":[2,1]}}\n')

@@ -7,7 +7,7 @@ from functools import partial
 from .drive import START, TOP, Finding, differs, held, run
 from .expect import SENTENCES
 from .model import lines_of
-from .sheets import A, B, JOINT
+from .sheets import A, B, C, JOINT, sheet
 
 ROOM = '4294967295'  # the word that stands where nothing was written
 
@@ -24,7 +24,7 @@ def text_words(text):
 def lines():
     """What tests/library.c prints. Of a result: number, sheet, row, value, count; what was written; the word after it.
     Where out is lent as bytes, it is shown as words: the machine is x86-64."""
-    yield 'version: 0.4.0'
+    yield 'version: 0.5.0'
     yield 'answer: 0 0 0 2 0; 4294967295'
     yield 'joint_answer: 0 0 0 2 1; 4294967295'
     yield 'witness: 0 0 0 0 40; 11 0 21 0 22 0 31 1 41 0 4294967295'
@@ -81,6 +81,35 @@ def lines():
     yield 'look_up, the second damaged: 6 2 3 0 0; 4294967295'
     yield 'look_up_refusal: 0 0 0'
     yield 'look_up_refusal, a person: 32 0 0'
+    yield 'find_node: 0 0 0 1 3; 4294967295'
+    yield 'find_node, not there: 0 0 0 0 4; 4294967295'
+    yield 'find_node, before all: 0 0 0 0 0; 4294967295'
+    yield 'find_node, behind all: 0 0 0 0 8; 4294967295'
+    yield 'find_edge: 0 0 0 1 3; 4294967295'
+    yield 'find_edge, not there: 0 0 0 0 4; 4294967295'
+    yield 'find_edge, before all: 0 0 0 0 0; 4294967295'
+    yield 'find_edge, behind all: 0 0 0 0 7; 4294967295'
+    yield f'add_node: 0 0 0 2 70; {words(A_AND_13)} {ROOM}'
+    yield 'add_node, a word short: 25 0 0 0 0; 4294967295'
+    yield 'add_node, no type: 6 0 0 0 0; 4294967295'
+    yield 'add_node, no number: 7 0 0 0 0; 4294967295'
+    yield 'add_node, no variant: 7 0 0 0 0; 4294967295'
+    yield 'add_node, no office: 8 0 0 0 0; 4294967295'
+    yield 'add_node, office 2: 8 0 0 0 0; 4294967295'
+    yield 'add_node, already there: 9 0 0 0 0; 4294967295'
+    yield f'add_edge: 0 0 0 4 70; {words(C)} {ROOM}'
+    yield 'add_edge, a word short: 25 0 0 0 0; 4294967295'
+    yield 'add_edge, no kind: 11 0 0 0 0; 4294967295'
+    yield 'add_edge, no row: 12 0 0 0 0; 4294967295'
+    yield 'add_edge, no types: 13 0 0 0 0; 4294967295'
+    yield 'add_edge, within itself: 14 0 0 0 0; 4294967295'
+    yield 'add_edge, no office: 15 0 0 0 0; 4294967295'
+    yield 'add_edge, office 2: 15 0 0 0 0; 4294967295'
+    yield 'add_edge, already there: 16 0 0 0 0; 4294967295'
+    yield 'add_node, full: 4 0 0 0 0; 4294967295'
+    yield 'add_node, full, already there: 9 0 0 0 0; 4294967295'
+    yield 'add_edge, full: 4 0 0 0 0; 4294967295'
+    yield 'add_edge, full, already there: 16 0 0 0 0; 4294967295'
     yield f'read_listing: 0 0 0 34; {words(B)} {ROOM}'
     yield f'read_listing, no bytes: 0 0 0 6; 1 1 0 0 6 6 {ROOM}'
     yield 'read_listing, no line feed: 40 0 6 0; 4294967295'
@@ -94,11 +123,14 @@ def lines():
     yield 'write_listing, a byte short: 25 0 0 0; 4294967295'
     yield 'write_listing, two offices: 28 1 0 0; 4294967295'
     yield 'write_listing, damaged: 6 1 3 0; 4294967295'
+    for length, said in SINGLE_LINES:
+        yield f'read_line, {length} bytes: {said}'
     yield 'read_listing, 513 nodes: 4 0 0 0; 4294967295'
     yield 'check: 0 0 0'
     yield 'check, damaged: 6 1 3'
     for name in ('sheet_answer', 'sheet_joint_answer', 'sheet_witness', 'is_path', 'persons_in_category', 'persons_with_grant',
-                 'folios_out_of_reach', 'least_triple', 'least_holder', 'redundant_edges', 'take_out', 'look_up'):
+                 'folios_out_of_reach', 'least_triple', 'least_holder', 'redundant_edges', 'take_out', 'look_up', 'find_node',
+                 'find_edge', 'add_node', 'add_edge'):
         yield f'{name}, damaged: 6 1 3 0 0; 4294967295'
     yield 'join, damaged: 6 2 3 0 0 0 0 0; 4294967295'
     yield 'look_up_refusal, damaged: 6 2 3'
@@ -107,6 +139,17 @@ def lines():
     for name, number in CONSTANTS:
         yield f'{name} {number}'
 
+
+# Sheet A with person 13 at row 2: every end from row 2 on is one more.
+A_AND_13 = sheet([(1, 11, 0), (1, 12, 0), (1, 13, 0), (2, 21, 0), (2, 22, 0), (3, 31, 1), (3, 31, 2), (4, 41, 0), (4, 42, 0)],
+                 [(1, 0, 3), (1, 1, 4), (2, 3, 4), (3, 4, 5), (4, 3, 6), (5, 5, 7), (5, 6, 8)])
+
+# Of the lines of tests/library.c: the bytes, and fault, form and numbers. A category within itself is a line by itself.
+SINGLE_LINES = [
+    (9, '0 1 11 0 0'), (11, '0 2 21 0 0'), (9, '0 3 31 1 0'), (8, '0 4 41 0 0'), (8, '0 5 11 21 0'), (12, '0 6 21 22 0'),
+    (13, '0 7 22 31 1'), (11, '0 8 21 31 2'), (15, '0 9 31 1 41'), (9, '0 3 31 0 0'), (40, '0 9 4294967295 4294967294 4294967293'),
+    (12, '0 6 21 21 0'), (8, '41 0 0 0 0'), (18, '41 0 0 0 0'), (10, '40 0 0 0 0'), (1, '40 0 0 0 0'), (8, '0 1 1 0 0'),
+    (10, '40 0 0 0 0'), (0, '40 0 0 0 0')]
 
 # Every refusal number has a name, and stands in the header in the table's order.
 NAMES = ('LISTING_LINE', 'LISTING_NUMBER', 'LISTING_REPEATED', 'LISTING_NO_NODE', 'FILE_LENGTH',

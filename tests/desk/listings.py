@@ -8,6 +8,7 @@ from functools import partial
 from . import model
 from .drive import TOP, Finding, ask, ask_text, counter, differs, held, held_json, outcome_of, same
 from .expect import SENTENCES, Refused, RefusedLine
+from .model import size
 from .outputs import writes
 from .room import contents
 from .sheets import A, B, C, HARBOUR, JOINT, crew, crowd, sheet, wordy
@@ -145,10 +146,6 @@ def read(room, label, text, outcome=None, result=None):
     if isinstance(outcome, RefusedLine):
         outcome.file = name
     yield from writes(room, label, 'read', [name], outcome, result)
-
-
-def size(of):
-    return {'nodes': len(of.nodes), 'edges': len(of.edges), 'bytes': len(of.file())}
 
 
 # ---- The lines as they are printed, so that not everything passes through expect.py

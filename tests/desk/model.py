@@ -6,7 +6,7 @@ be asked about them.
 import re
 import struct
 
-from .expect import KINDS, TYPES, Refused, RefusedLine, answered
+from .expect import KINDS, TYPES, NoEnd, Refused, RefusedLine, RefusedTyping, Unfound, answered, identity_object
 from .sheets import APPLIES, BAN, CATEGORY, DEED, FOLIO, GRANT, MEMBER, MOST_BYTES, MOST_EDGES, MOST_NODES, PERSON, WITHIN
 from .sheets import Edge, Node, Sheet
 
@@ -276,7 +276,17 @@ def find(first, second, type_, number, variant):
         for row, node in enumerate(sheet.nodes):
             if node.identity == (type_, number, variant):
                 return {'sheet': place, 'node': node_object(sheet, row)}
-    raise Refused(32)
+    raise Unfound(*(row_for(sheet, (type_, number, variant)) for sheet in (first, second)))
+
+
+def row_for(sheet, identity):
+    """The node row at which an identity stands or would stand: so many are lower."""
+    return sum(node.identity < identity for node in sheet.nodes)
+
+
+def size(sheet):
+    """What is told of a sheet that is written."""
+    return {'nodes': len(sheet.nodes), 'edges': len(sheet.edges), 'bytes': len(sheet.file())}
 
 
 def relations(sheet):
@@ -318,7 +328,7 @@ def take(sheet, office):
     need_office(sheet, office)
     result = rebuilt(1, {node.identity: 1 for node in sheet.nodes if node.marks & mark(office)},
                      {key: 1 for key, marks in relations(sheet).items() if marks & mark(office)})
-    return {'nodes': len(result.nodes), 'edges': len(result.edges), 'bytes': len(result.file())}, result
+    return size(result), result
 
 
 # ---- Listings
@@ -343,18 +353,25 @@ def no_number(digits, least):
     return len(digits) > 1 and digits.startswith(b'0') or len(digits) > 10 or not least <= int(digits) < 1 << 32
 
 
-def line_fault(line, ended, before):
-    """The line's refusal, or its row: the word and the identities."""
+def line_alone(line):
+    """What refuses a line by itself, or its row: the word and the identities."""
     row = typed_row(line)
-    if row is None or not ended:
+    if row is None:
         return 40, None
     word, names = row
     if any(no_number(number, 1) or any(no_number(each, 0) for each in variant) for _, number, *variant in names):
         return 41, None
-    row = word, tuple((type_, int(number), *(int(each) for each in variant or [b'0'])) for type_, number, *variant in names)
+    return 0, (word, tuple((type_, int(number), *(int(each) for each in variant or [b'0'])) for type_, number, *variant in names))
+
+
+def line_fault(line, ended, before):
+    """The refusal of a listing's line, or its row."""
+    number, row = line_alone(line) if ended else (40, None)
+    if number:
+        return number, None
     if row in before:
         return 42, None
-    return (14 if word == b'within' and row[1][0] == row[1][1] else 0), row
+    return (14 if row[0] == b'within' and row[1][0] == row[1][1] else 0), row
 
 
 def read_listing(text, file='-'):
@@ -380,7 +397,7 @@ def read_listing(text, file='-'):
 def read_in(text, file='-'):
     """The reply and the sheet."""
     result = read_listing(text, file)
-    return {'nodes': len(result.nodes), 'edges': len(result.edges), 'bytes': len(result.file())}, result
+    return size(result), result
 
 
 def lines_of(sheet):
@@ -399,15 +416,56 @@ def listing(sheet):
     return {'listing': lines_of(sheet)}
 
 
+# ---- One row more
+
+def add(sheet, line, marks=1):
+    """The reply, and the sheet with the line's row more."""
+    number, row = line_alone(line)
+    if number:
+        raise RefusedTyping(number, line)
+    word, names = row
+    identities, edges = {node.identity: node.marks for node in sheet.nodes}, relations(sheet)
+    if word in NODE_LINES:
+        refuse_node(sheet, names[0], marks)
+        result = rebuilt(sheet.offices, {**identities, names[0]: marks}, edges)
+        return {'node': node_object(result, row_for(result, names[0])), **size(result)}, result
+    relation = EDGE_LINES[word], *names
+    refuse_edge(sheet, relation, marks)
+    result = rebuilt(sheet.offices, identities, {**edges, relation: marks})
+    return {'edge': edge_object(result, list(relations(result)).index(relation)), **size(result)}, result
+
+
+def refuse_node(sheet, identity, marks):
+    number = node_fault(Node(*identity, marks), [], sheet.offices)
+    if number:
+        raise Refused(number)
+    if identity in {node.identity for node in sheet.nodes}:
+        raise Refused(9)
+    if len(sheet.nodes) == MOST_NODES:
+        raise Refused(4)
+
+
+def refuse_edge(sheet, relation, marks):
+    kind, start, end = relation
+    marked = {node.identity: node.marks for node in sheet.nodes}
+    missing = [each for each in dict.fromkeys((start, end)) if each not in marked]
+    if missing:
+        raise NoEnd(*missing)
+    if kind == WITHIN and start == end:
+        raise Refused(14)
+    if marks == 0 or marks & marked[start] & marked[end] != marks:
+        raise Refused(15)
+    if relation in relations(sheet):
+        raise Refused(16)
+    if len(sheet.edges) == MOST_EDGES:
+        raise Refused(4)
+
+
 # ---- The rows
 
 def show(sheet):
     return {'form': 1, 'offices': sheet.offices, 'nodes': [node_object(sheet, row) for row in range(len(sheet.nodes))],
             'edges': [edge_object(sheet, row) for row in range(len(sheet.edges))]}
-
-
-def identity_object(identity):
-    return {'type': TYPES[identity[0]], 'number': identity[1], 'variant': identity[2]}
 
 
 def offices_of(marks):

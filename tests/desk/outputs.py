@@ -9,20 +9,21 @@ from . import model
 from .drive import Finding, ask_json, ask_text, counter, differs, held, same, true
 from .expect import SENTENCES, Refused
 from .room import OLDER, contents
-from .sheets import A, B, DAMAGES, JOINT, crew, crowd, wordy
+from .sheets import A, B, C, DAMAGES, JOINT, crew, crowd, wordy
 
 UNWRITTEN = "counter: the output can't be written\n"
 SAID = b'nodes 8 shared 4\nedges 8 shared 2\nwritten: '
 
 
-def writes(room, label, verb, args, outcome, result):
-    """A verb that writes, in text over an older OUT and in JSON into a new one; refused, the folder is as it was."""
+def writes(room, label, verb, args, outcome, result, behind=()):
+    """A verb that writes, in text over an older OUT and in JSON into a new one; refused, the folder is as it was. BEHIND are the
+    arguments after OUT."""
     args = [str(each) for each in args]
     folder = room.folder()
     older, new = folder / 'older.sheet', folder / 'new.sheet'
     older.write_bytes(OLDER)
-    yield ask_text(label, verb, [*args, str(older)], outcome, out=older)
-    yield ask_json(label, verb, [*args, str(new)], outcome)
+    yield ask_text(label, verb, [*args, str(older), *behind], outcome, out=older)
+    yield ask_json(label, verb, [*args, str(new), *behind], outcome)
     wanted = {older.name: OLDER} if isinstance(outcome, Refused) else {new.name: result.file(), older.name: result.file()}
     yield same(f'{label} [{verb}]: in the folder of OUT', wanted, contents(folder))
 
@@ -62,7 +63,7 @@ def joins(place, out, label, wanted=None, **how):
 def cannot(place, out, label, reason, **how):
     """OUT can't be written, in text and in JSON, by each verb that writes it."""
     for option in [], ['--json']:
-        for args in ('join', 'a', 'b', out), ('take', 'ab', '2', out), ('read', 'typed', out):
+        for args in ('join', 'a', 'b', out), ('take', 'ab', '2', out), ('add', 'a', out, 'person 999'), ('read', 'typed', out):
             ran = place.counter(*option, *args, **how)
             yield held(f'{label}, {option} {args[0]}', ran, 3, '', f'counter: {out}: {reason}\n')
     yield place.left(label)
@@ -82,6 +83,10 @@ def files(room):
     place = Place(room)
     yield held('OUT is the only input', place.counter('take', 'ab', '2', 'ab'), 0, 'nodes 4\nedges 3\nwritten: ab\n')
     yield place.left('OUT is the only input', ab=B.file())
+    place = Place(room)
+    added = 'edge 4: category 22 grants deed 31/2, office 1\nnodes 8\nedges 8\nwritten: a\n'
+    yield held('OUT is the sheet that is added to', place.counter('add', 'a', 'a', 'grant 22 31/2'), 0, added)
+    yield place.left('OUT is the sheet that is added to', a=C.file())
     place = Place(room)
     yield held('OUT is the listing', place.counter('read', 'typed', 'typed'), 0, 'nodes 4\nedges 3\nwritten: typed\n')
     yield place.left('OUT is the listing', typed=B.file())
@@ -154,8 +159,8 @@ def no_room(room):
     place = Place(room)
     yield from joins(place, 'out', 'a file may have a thousand bytes', before='ulimit -f 1')
     place = Place(room)
-    place.lay('a', crowd(256).file())
-    place.lay('b', crowd(256, 257).file())
+    place.lay('a', crowd(400).file())
+    place.lay('b', crowd(112, 401).file())
     place.lay('ab', model.join(crowd(512), crowd(512))[1].file())
     place.lay('typed', model.lines_of(crowd(512)).encode())
     place.lay('out', OLDER)
@@ -212,13 +217,14 @@ def at_once(room):
 # ---- Standard output
 
 def verbs_of(place):
-    """A run of each verb that prints an answer, two refusals, and the two texts of help."""
+    """A run of each verb that prints an answer, refusals, and the two texts of help."""
     a, ab, wrong, out = (place.path / name for name in ('a', 'ab', 'typed wrong', 'out'))
     return [('check', a), ('answer', a, '1', '11', '31', '41'), ('joint', ab, '1', '11', '31', '42'),
             ('witness', a, '1', 'grant', '11', '31', '41'), ('path', a, '1', 'grant', '11', '31', '41', '11'),
             ('persons', a, '1', '22'), ('holders', a, '1', '31', '41'), ('unreached', a, '1'), ('conflict', a, '1'),
             ('duties', a, '1', '31', '31'), ('redundant', a, '1'), ('find', a, ab, 'person', '11'), ('show', a),
-            ('list', a), ('--json', 'list', a), ('read', wrong, out), ('draw', a, '1'), ('--json', 'show', a),
+            ('list', a), ('--json', 'list', a), ('read', wrong, out), ('add', a, out, 'person 11'), ('add', a, out, 'in 1 1'),
+            ('draw', a, '1'), ('--json', 'show', a),
             ('--json', 'check', a), ('--json', 'draw', a, '1'),
             ('--json', 'answer', a, '9', '1', '1', '1'), ('--help',), ('check', '--help'), ('--version',)]
 

@@ -1,6 +1,6 @@
 """The tests can fail: what is known to be wrong has to be noticed."""
 from .drive import Finding, Ran, ask, held, held_json, same
-from .expect import Refused, RefusedLine
+from .expect import NoEnd, Refused, RefusedLine, RefusedTyping, Unfound
 from .known import says
 from .sheets import A, HARBOUR
 from . import drawn
@@ -34,6 +34,13 @@ def runs(room):
                          ('no line', Refused(41, 0, 1))):
         yield noticed(label, ask('wrong', 'read', [typed, 'out'], wrong))
     yield noticed('another listing', ask('wrong', 'list', [a], {'listing': 'person 11\n'}))
+    for label, wrong in (('another row', Unfound(2, 1)), ('no row', Refused(32))):
+        yield noticed(f'where it would stand: {label}', ask('wrong', 'find', [a, a, 'person', 13], wrong))
+    for label, line, wrong in (('a place', 'person 11', Refused(9, 1, 0)), ('another number', 'person 11', Refused(16)),
+                               ('another end', 'in 11 23', NoEnd((1, 11, 0))), ('no end', 'in 11 23', Refused(12)),
+                               ('an end twice', 'within 23 23', NoEnd((2, 23, 0), (2, 23, 0))),
+                               ('other bytes', 'person 0', RefusedTyping(41, b'person 00')), ('no bytes', 'person 0', Refused(41))):
+        yield noticed(f'a refused row: {label}', ask('wrong', 'add', [a, 'out', line], wrong))
     graph = drawn.draw('', room.file(A.file()), ['1'])[1]
     yield noticed("another sheet's picture", drawn.rows_drawn('wrong', graph, HARBOUR, 1))
 

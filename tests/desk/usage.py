@@ -24,13 +24,15 @@ VERBS = {
     'find': 'FIRST SECOND person|category|deed|folio NUMBER[/VARIANT]',
     'join': 'FIRST SECOND OUT',
     'take': 'FILE OFFICE OUT',
+    'add': 'FILE OUT LINE [OFFICES]',
     'read': 'LISTING OUT',
     'list': 'FILE',
     'show': 'FILE',
     'draw': 'FILE OFFICE [grant|ban PERSON DEED FOLIO]',
 }
 RIGHT = {'FILE': 'a', 'FIRST': 'a', 'SECOND': 'b', 'LISTING': 'listing', 'OUT': 'out', 'grant|ban': 'grant',
-         '[grant|ban': 'grant', 'person|category|deed|folio': 'person', 'NUMBER[/VARIANT]': '11', 'NODE..': '11'}
+         '[grant|ban': 'grant', 'person|category|deed|folio': 'person', 'NUMBER[/VARIANT]': '11', 'NODE..': '11',
+         'LINE': 'person 13'}
 
 NO_NUMBER = 'is no number from 0 to 4294967295'
 NO_KIND = 'is neither grant nor ban'
@@ -39,6 +41,7 @@ NO_NODE = 'is no node: [person|category|deed|folio] NUMBER[/VARIANT]'
 NO_TYPE = 'is no type: person, category, deed or folio'
 NO_IDENTITY = 'is no identity: NUMBER or NUMBER/VARIANT'
 NO_NAME = "is no file's name for the result"
+NO_OFFICES = 'is no list of offices: numbers from 1 to 32 with commas, none twice'
 ONCE = 'can be read only once'
 
 # A sign, a space, another base, a separator or a number too large make no number.
@@ -54,6 +57,8 @@ WRONG = {
     'NUMBER[/VARIANT]': [(word, NO_IDENTITY) for word in NO_SLASHES + SPACED],
     'NODE..': [(word, NO_NODE) for word in NO_SLASHES + ['>', 'person', 'Person', 'folio']],
     'OUT': [('-', NO_NAME)],
+    '[OFFICES': [(word, NO_OFFICES) for word in ('', 'x', '0', '33', '-1', '+1', ' 1', '1 ', ',', '1,', ',1', '1,,2', '1, 2', '1 2',
+                                                 '1;2', '1-2', '1/2', '1,1', '2,1,2', '1,01', '1,33', '1,x', '4294967297')],
 }
 # In `path`: lines of several words that are no nodes; which of the words is told is left to the command.
 NO_NODES = ['', ' ', '> 11', '11 >', '11 > > 12', '11 >> 12', 'person person 11', 'person > 11', 'person 11 category',
@@ -79,7 +84,7 @@ def places(verb):
         name = name if name.endswith('VARIANT]') else name.rstrip(']')
         if name in WRONG:
             yield place, WRONG[name]
-        elif name not in ('FILE', 'FIRST', 'SECOND', 'LISTING'):
+        elif name not in ('FILE', 'FIRST', 'SECOND', 'LISTING', 'LINE'):
             yield place, [(word, NO_NUMBER) for word in NUMBERS]
 
 
@@ -110,7 +115,7 @@ def wrong_words(verb, room):
 def wrong_counts(verb, room):
     """Too few arguments, and too many."""
     cwd, whole = desk(room), right(verb)
-    enough = {'draw': (2, 6)}.get(verb, (len(whole),))
+    enough = {'draw': (2, 6), 'add': (3, 4)}.get(verb, (len(whole),))
     for count in range(len(whole)):
         if count not in enough:
             for option in [], ['--json']:

@@ -5,6 +5,7 @@
 from .drive import SHOWN, same
 
 OF_A_FILE = {33, *range(1, 18)}
+PLACED = {28}  # of those of a question: the sheet is told. A line and a row to be added have no sheet, whatever the number.
 OF_A_QUESTION = {
     'check': set(),
     'answer': {20, 21, 22, 23},
@@ -20,6 +21,7 @@ OF_A_QUESTION = {
     'find': {32},
     'join': {28, 29, 30},
     'take': {20},
+    'add': {40, 41, 8, 9, 12, 14, 15, 16, 4},
     'read': {40, 41, 42, 14, 43, 4},
     'list': {28},
     'show': set(),
@@ -34,6 +36,7 @@ def tests(_):
 def whole():
     for verb, numbers in OF_A_QUESTION.items():
         for form in 'text', 'JSON':
-            seen = {number for shown, number, how in SHOWN if (shown, how) == (verb, form)}
-            of_a_file = set() if verb == 'read' else OF_A_FILE
-            yield same(f'{verb}, what it was seen to give in {form}', sorted({0} | of_a_file | numbers), sorted(seen))
+            seen = {(number, placed) for shown, number, placed, how in SHOWN if (shown, how) == (verb, form)}
+            of_a_file = set() if verb == 'read' else {(number, True) for number in OF_A_FILE}
+            wanted = {(0, False)} | of_a_file | {(number, number in PLACED) for number in numbers}
+            yield same(f'{verb}, what it was seen to give in {form}', sorted(wanted), sorted(seen))

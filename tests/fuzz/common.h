@@ -1,4 +1,4 @@
-/* What both harnesses of the fuzzer use. */
+/* What the harnesses of the fuzzer use. */
 
 #include <stdint.h>
 #include <stdio.h>
@@ -13,20 +13,20 @@
 enum { FILL = 0xA5 };
 
 /* A piece of memory of just this length, so that a byte beyond it is seen. */
-static void *copied(const void *from, size_t length) {
+static inline void *copied(const void *from, size_t length) {
     void *to = malloc(length);
     if (!to) abort();
     if (length) memcpy(to, from, length);
     return to;
 }
 
-static void *filled(size_t length) {
+static inline void *filled(size_t length) {
     void *to = malloc(length);
     if (!to) abort();
     memset(to, FILL, length);
     return to;
 }
 
-static uint32_t word_at(const uint8_t *bytes) {
+static inline uint32_t word_at(const uint8_t *bytes) {
     return bytes[0] | (uint32_t)bytes[1] << 8 | (uint32_t)bytes[2] << 16 | (uint32_t)bytes[3] << 24;
 }

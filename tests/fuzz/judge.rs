@@ -1,5 +1,6 @@
 //! The second program's own judgement as a library for C: what the counter's
-//! entries and the reader of listings have to answer, byte for byte.
+//! entries, the readers of listings and of one line, and the functions that search for
+//! a row and add one have to answer, byte for byte.
 
 // Much of the second program's model is not used here.
 #![allow(dead_code)]
@@ -7,11 +8,13 @@
 #[path = "../second/model/mod.rs"]
 mod model;
 
+use model::addition::add;
 use model::answer::{Answer, Refusal};
 use model::counter::by_counter;
 use model::judge::{judge_bytes, Verdict};
 use model::listing;
-use model::sheet::bytes_of;
+use model::position::{key_of, search, Table};
+use model::sheet::{bytes_of, Row};
 
 /// number, sheet, row, value, count
 type Reply = [u32; 5];
@@ -56,6 +59,26 @@ pub unsafe extern "C" fn second_judge(
     std::slice::from_raw_parts_mut(out, room)[..bytes.len()].copy_from_slice(&bytes);
 }
 
+/// One line without its line feed: 40 or 41, or which of the nine it is and its numbers
+/// as they stand.
+fn said(line: &[u8]) -> [u32; 5] {
+    let text = [line, b"\n"].concat();
+    let Some(shape) = listing::shape(&text) else {
+        return [40, 0, 0, 0, 0];
+    };
+    if listing::entry(&shape).is_none() {
+        return [41, 0, 0, 0, 0];
+    }
+    let form = listing::WORDS.iter().position(|word| word.word == shape.word.word);
+    let typed = shape.names.iter().flat_map(|name| [Some(name.number), name.variant]).flatten();
+    let mut reply = [0; 5];
+    reply[1] = form.map_or(0, |at| at as u32 + 1);
+    for (place, digits) in reply[2..].iter_mut().zip(typed) {
+        *place = listing::value(digits).unwrap_or(0);
+    }
+    reply
+}
+
 /// The reply has room for four: number, sheet, line, count; `out` has room for as
 /// many words as the reader's output.
 ///
@@ -76,4 +99,46 @@ pub unsafe extern "C" fn second_read_listing(
     };
     std::slice::from_raw_parts_mut(reply, 4).copy_from_slice(&numbers.map(u64::from));
     std::slice::from_raw_parts_mut(out, room)[..words.len()].copy_from_slice(&words);
+}
+
+/// The reply has room for five: fault, form, first, second, third.
+///
+/// # Safety
+/// Every pointer has to be good for so many.
+#[no_mangle]
+pub unsafe extern "C" fn second_read_line(line: *const u8, length: usize, reply: *mut u32) {
+    let line = std::slice::from_raw_parts(line, length);
+    std::slice::from_raw_parts_mut(reply, 5).copy_from_slice(&said(line));
+}
+
+/// Operation 0 searches for a node and 1 for an edge, 2 adds a node and 3 an edge. The row
+/// is four words, of which a search takes three; the reply has room for five, and `out`
+/// for as many words as the function's output.
+///
+/// # Safety
+/// Every pointer has to be good for so many.
+#[no_mangle]
+pub unsafe extern "C" fn second_row(
+    operation: u32,
+    sheet: *const u32,
+    length: usize,
+    row: *const u32,
+    out: *mut u32,
+    room: usize,
+    reply: *mut u32,
+) {
+    let words = std::slice::from_raw_parts(sheet, length);
+    let row: Row = *row.cast();
+    let outcome = match operation {
+        0 => search(Table::Nodes, key_of(row), words),
+        1 => search(Table::Edges, key_of(row), words),
+        2 => add(Table::Nodes, row, words, room),
+        _ => add(Table::Edges, row, words, room),
+    };
+    let (numbers, written) = match outcome {
+        Ok(Answer { value, count, written, .. }) => ([0, 0, 0, value, count], written),
+        Err(Refusal { number, sheet, row }) => ([number, sheet, row, 0, 0], Vec::new()),
+    };
+    std::slice::from_raw_parts_mut(reply, 5).copy_from_slice(&numbers);
+    std::slice::from_raw_parts_mut(out, room)[..written.len()].copy_from_slice(&written);
 }

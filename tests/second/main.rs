@@ -14,6 +14,8 @@
 //! second --benchmark [--only OPERATIONS] -- COMMAND ARGS..
 //! second --seeds FOLDER [--seed N]
 //! second --texts FOLDER [--seed N]
+//! second --lines FOLDER [--seed N]
+//! second --rows FOLDER [--seed N]
 //! second --self-test
 
 mod benchmark;
@@ -36,8 +38,7 @@ fn main() {
     let tally = match Options::read(std::env::args().skip(1)) {
         Ok(options) if options.self_test => selftest::run(),
         Ok(options) if options.benchmark => benchmark::run(&options),
-        Ok(Options { seed, seeds: Some(folder), .. }) => seeds::files(seed, &folder),
-        Ok(Options { seed, texts: Some(folder), .. }) => seeds::texts(seed, &folder),
+        Ok(Options { seed, seeds: Some((sort, folder)), .. }) => seeds::write(sort, seed, &folder),
         Ok(options) => run::run(&options),
         Err(why) => {
             eprintln!("{why}\n{USAGE}");

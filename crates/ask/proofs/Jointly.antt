@@ -11,6 +11,8 @@ use lib.Seq.{getD-take, length-take-le, getD-set-same, getD-set-other}
 use borrow.Author.Count.{below-more}
 use Rattle.tables.specs.Count.{FirstStanding}
 use Rattle.sheet.specs.declared.Header.{Header}
+use Rattle.sheet.specs.declared.Place.{Place}
+use Rattle.sheet.specs.Found.{FirstFound}
 use Rattle.sheet.specs.Limits.{maxOffices}
 use Rattle.sheet.specs.Rows.{headerOf}
 use Rattle.sheet.specs.Accepted.{WellFormed}
@@ -40,26 +42,28 @@ module _ (test : ℕ → Bool) (tell : ℕ → ℕ) where
   lowest-none o (x ∷ rs) rest f = rw (f 0 (omega arith)) (lowest-none (suc o) rs rest (λ i l. f (suc i) (omega arith)))
 
   -- of the first n answers
-  module _ (rs : List ℕ) (n : ℕ) (h : n ≤ length rs) (o : ℕ) (rest : Joint) (r : ℕ) (f : FirstStanding (λ i. test (getD rs i 0)) n r) where
+  module _ (rs : List ℕ) (n : ℕ) (h : n ≤ length rs) (o : ℕ) (rest : Joint) (p : Place) (f : FirstFound (λ i. test (getD rs i 0)) n p) where
     long : length (take n rs) ≡ n
     long = length-take-le n rs h
 
     same : (i : ℕ) → i < n → getD (take n rs) i 0 ≡ getD rs i 0
     same i l = getD-take n rs i 0 l
 
-    pub decides : r < n → lowest test tell o (take n rs) rest ≡ record { answer = tell (getD rs r 0); office = r + o }
-    decides l =
+    pub decides : p .found ≡ true → lowest test tell o (take n rs) rest ≡ record { answer = tell (getD rs (p .row) 0); office = p .row + o }
+    decides e =
+        let r = p .row in
+        let l = f .met e in
         lowest-found o (take n rs) rest r
         record {
           most = omega (arith, long);
-          before = λ i k. ap test (same i (omega arith)) ∙ f .before i k;
-          found = λ k. ap test (same r l) ∙ f .found l;
+          before = λ i k. ap test (same i (omega arith)) ∙ f .first .before i k;
+          found = λ k. ap test (same r l) ∙ f .first .found l;
         }
         (omega (arith, long))
         ∙ ap (λ (k : ℕ). record { answer = tell k; office = r + o }) (same r l)
 
-    pub passed-over : n ≤ r → lowest test tell o (take n rs) rest ≡ rest
-    passed-over l = lowest-none o (take n rs) rest (λ i k. let e = long in ap test (same i (omega arith)) ∙ f .before i (omega arith))
+    pub passed-over : p .found ≡ false → lowest test tell o (take n rs) rest ≡ rest
+    passed-over e = lowest-none o (take n rs) rest (λ i k. ap test (same i (omega (arith, long))) ∙ f .first .before i (omega (arith, long, f .missed e)))
 
 -- one answer more
 pub one-more : (P : ℕ → ℕ → Type 0) (rs : List ℕ) (k x : ℕ) → k < length rs → ((i : ℕ) → i < k → P i (getD rs i 0)) → P k x → (i : ℕ) → i < k + 1 → P i (getD (set rs k x) i 0)

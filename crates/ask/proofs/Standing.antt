@@ -37,7 +37,7 @@ fault-unknown s q h n e z u = u ∙ sym (else-none (badOffice (headerOf s) (q .o
 
 -- an office that there is: refused for whom it does not know, or placed
 pub stand-made : (s : List ℕ) → Accepted s → (h : Header) → h ≡ headerOf s → (q : Question) → badOffice h (q .office) ≡ 0 → (seat : Seat) → (seat ≡ seatFor q) × Seated seat
-    → (p : Places) → FoundAll s false (seat .office) (h .nodes) q p → (n : ℕ) → n ≡ unfound (h .nodes) p → StandsSo s q (record { number = n; seat = seat; person = p .person; folio = p .folio })
+    → (p : Places) → FoundAll s false (seat .office) (h .nodes) q p → (n : ℕ) → n ≡ unfound p → StandsSo s q (record { number = n; seat = seat; person = p .person .row; folio = p .folio .row })
 stand-made s acc h e q z seat o p F n u =
     record {
       number = fault-unknown s q h n e z (u ∙ unfound-unknown s false (seat .office) (h .nodes) q p (ap (λ (x : Header). x .nodes) e) F ∙ ap (λ (x : Seat). unknown s false (x .office) q) (o .0));

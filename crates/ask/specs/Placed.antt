@@ -4,15 +4,14 @@ use Prim.Native.Nat.{ℕ, _<_}
 use mathlib.Core.Path.{_≡_}
 use mathlib.Core.Bool.{Bool, not}
 use mathlib.Core.List.{List}
-use Rattle.tables.specs.Count.{FirstStanding}
-use Rattle.sheet.specs.Refusals.{_below_, _when_otherwise_}
+use Rattle.sheet.specs.Refusals.{_when_otherwise_}
 use Rattle.sheet.specs.Rows.{headerOf, nodeKeyAt}
 use Rattle.sheet.specs.Seats.{Seated}
 use Rattle.meaning.specs.Paths.{person, folio}
 use Rattle.question.specs.declared.Question.{Question}
 use Rattle.ask.specs.declared.Places.{Places}
 use Rattle.ask.specs.declared.Stand.{Stand}
-use Rattle.question.specs.Asked.{seatFor, stands, askFault}
+use Rattle.question.specs.Asked.{seatFor, SoughtAt, askFault}
 
 -- the rows of the question's person and folio, and that its deed is one
 pub record Placed (s : List ℕ) (q : Question) (rp rf : ℕ) : Type 0 where
@@ -24,16 +23,16 @@ pub record Placed (s : List ℕ) (q : Question) (rp rf : ℕ) : Type 0 where
 
 -- where a search found the question's person, deed and folio
 pub record FoundAll (s : List ℕ) (any : Bool) (office n : ℕ) (q : Question) (p : Places) : Type 0 where
-  pub person-at : FirstStanding (stands s any office 1 (q .person)) n (p .person)
-  pub deed-at : FirstStanding (stands s any office 3 (q .deed)) n (p .deed)
-  pub folio-at : FirstStanding (stands s any office 4 (q .folio)) n (p .folio)
+  pub person-at : SoughtAt s any office 1 (q .person) n (p .person)
+  pub deed-at : SoughtAt s any office 3 (q .deed) n (p .deed)
+  pub folio-at : SoughtAt s any office 4 (q .folio) n (p .folio)
 
--- 21, 22, 23 by the rows that a search found
-unfoldable pub unfound : ℕ → Places → ℕ
-unfound n p =
-    21 when not (p .person below n) otherwise
-    22 when not (p .deed below n) otherwise
-    23 when not (p .folio below n) otherwise
+-- 21, 22, 23 by what a search found
+unfoldable pub unfound : Places → ℕ
+unfound p =
+    21 when not (p .person .found) otherwise
+    22 when not (p .deed .found) otherwise
+    23 when not (p .folio .found) otherwise
     0
 
 -- how a question at an office stands: what refuses it, and where nothing does its seat and the rows of the person and the folio

@@ -7,6 +7,7 @@ use sheet::DEED;
 use sheet::FOLIO;
 use sheet::Header;
 use sheet::PERSON;
+use sheet::Place;
 use sheet::Seat;
 use walk::Walk;
 ghost use mathlib.Core.Path.{_≡_};
@@ -14,11 +15,11 @@ ghost use mathlib.Core.Bool.{true, false};
 ghost use Prim.Native.Nat.{ℕ, suc, _*_, _<_, _≤_};
 ghost use lib.ListN.{length, getD, take, drop};
 ghost use mathlib.Core.List.{_++_};
-ghost use Rattle.tables.specs.Count.{FirstStanding};
 ghost use Rattle.sheet.specs.Limits.{maxOffices, maxNodes};
 ghost use Rattle.sheet.specs.Refusals.{none};
 ghost use Rattle.sheet.specs.Rows.{headerOf};
 ghost use Rattle.sheet.specs.Accepted.{NodesFormed, WellFormed, Accepted};
+ghost use Rattle.sheet.specs.Found.{FirstFound};
 ghost use Rattle.sheet.specs.Named.{seenAt};
 ghost use Rattle.sheet.specs.Seats.{Seated, seenFrom};
 ghost use Rattle.paths.specs.Reached.{Layers};
@@ -49,11 +50,11 @@ const DENY_FIRST: u32 = 2;
 
 const FIRST_APPLICABLE: u32 = 3;
 
-// The node rows of a question's person, deed and folio; the node count where there is none.
+// Where a question's person, deed and folio stand among the node rows.
 pub struct Places {
-    pub person: u32,
-    pub deed: u32,
-    pub folio: u32,
+    pub person: Place,
+    pub deed: Place,
+    pub folio: Place,
 }
 
 // How a question at an office stands: a refusal's number, or 0 with the seat from which it is asked, and the rows of the person and the folio.
@@ -158,16 +159,16 @@ fn answer_number(grants: bool, bans: bool) -> u32
 }
 
 // 21, 22 or 23 where the person, the deed or the folio has no row.
-fn unknown_of(h: Header, p: Places) -> u32
-    ensures { λ r. ⌜ r ≡ unfound (h .nodes) p ⌝ }
+fn unknown_of(p: Places) -> u32
+    ensures { λ r. ⌜ r ≡ unfound p ⌝ }
 {
-    if h.nodes <= p.person {
+    if !p.person.found {
         return 21;
     }
-    if h.nodes <= p.deed {
+    if !p.deed.found {
         return 22;
     }
-    if h.nodes <= p.folio {
+    if !p.folio.found {
         return 23;
     }
     0
@@ -179,10 +180,18 @@ fn office_answer(sheet: &[u32], edges: &[u32], h: Header, seat: Seat, q: Questio
     ensures { λ r. ⌜ AnswerIs (seenFrom (now (sheet .entry)) seat) (q .person) (q .deed) (q .folio) r ⌝ }
 {
     let p = places_of(sheet, h, false, seat, q);
-    if unknown_of(h, p) != 0 {
+    if unknown_of(p) != 0 {
         return 0;
     }
-    answer_at(sheet, edges, h, seat, q, p.person, p.folio)
+    answer_at(
+        sheet,
+        edges,
+        h,
+        seat,
+        q,
+        p.person.row as u32,
+        p.folio.row as u32,
+    )
 }
 
 // How a question at an office stands.
@@ -202,10 +211,10 @@ fn stand_of(sheet: &[u32], h: Header, q: Question) -> Stand
     let seat = question::seat_at(q.office);
     let p = places_of(sheet, h, false, seat, q);
     Stand {
-        number: unknown_of(h, p),
+        number: unknown_of(p),
         seat: seat,
-        person: p.person,
-        folio: p.folio,
+        person: p.person.row as u32,
+        folio: p.folio.row as u32,
     }
 }
 
@@ -260,20 +269,26 @@ fn passes(want: u32, r: u32) -> bool
     (r == want) | (r == BOTH)
 }
 
-// The lowest of n offices, counted from 0, whose answer has what is wanted; n where none has.
-fn first_passing(rs: [u32; OFFICES], n: u32, want: u32) -> u32
+// The place of the lowest of n offices, counted from 0, whose answer has what is wanted.
+fn first_passing(rs: [u32; OFFICES], n: u32, want: u32) -> Place
     requires { ⌜ n ≤ maxOffices ⌝ }
-    ensures { λ r. ⌜ FirstStanding (λ i. passing want (getD rs i 0)) n r ⌝ }
+    ensures { λ r. ⌜ FirstFound (λ i. passing want (getD rs i 0)) n r ⌝ }
 {
-    let mut i: u32 = 0;
-    while i < n {
-        let at = i as usize;
-        if passes(want, rs[at]) {
-            return i;
+    let all = n as usize;
+    let mut i: usize = 0;
+    while i < all {
+        if passes(want, rs[i]) {
+            return Place {
+                found: true,
+                row: i,
+            };
         }
         i += 1;
     }
-    n
+    Place {
+        found: false,
+        row: all,
+    }
 }
 
 // One side if some office gives it, else another if some office gives that; the lowest that does decides.
@@ -282,12 +297,12 @@ fn side_first(rs: [u32; OFFICES], n: u32, one: u32, two: u32) -> Answer
     ensures { λ a. ⌜ a ≡ telling (lowest (passing one) (λ r. one) 1 (take n rs) (lowest (passing two) (λ r. two) 1 (take n rs) undetermined)) ⌝ }
 {
     let first = first_passing(rs, n, one);
-    if first < n {
-        return question::told(one, first + 1);
+    if first.found {
+        return question::told(one, first.row as u32 + 1);
     }
     let second = first_passing(rs, n, two);
-    if second < n {
-        return question::told(two, second + 1);
+    if second.found {
+        return question::told(two, second.row as u32 + 1);
     }
     question::told(UNDETERMINED, 0)
 }
@@ -298,9 +313,9 @@ fn first_applicable(rs: [u32; OFFICES], n: u32) -> Answer
     ensures { λ a. ⌜ a ≡ telling (lowest (passing 0) (λ r. r) 1 (take n rs) undetermined) ⌝ }
 {
     let first = first_passing(rs, n, 0);
-    if first < n {
-        let at = first as usize;
-        return question::told(rs[at], first + 1);
+    if first.found {
+        let at = first.row;
+        return question::told(rs[at], at as u32 + 1);
     }
     question::told(UNDETERMINED, 0)
 }
@@ -328,7 +343,7 @@ fn joint_checked(sheet: &[u32], edges: &[u32], h: Header, q: Question) -> Answer
         return question::refused_by(27);
     }
     let p = places_of(sheet, h, true, question::seat_at(1), q);
-    let n = unknown_of(h, p);
+    let n = unknown_of(p);
     if n != 0 {
         return question::refused_by(n);
     }

@@ -10,108 +10,115 @@ use lib.Dec.{ltb, eqb, eqb·zero-suc, eqb·suc-zero}
 use lib.ListN.{length, getD, drop}
 use borrow.Author.Tests.{ltb-true, ltb-false, eqb-true, eqb-false, eq-eqb}
 use Rattle.tables.specs.Count.{numberOf}
-use Rattle.tables.specs.Key.{Key, relation, sameKey}
+use Rattle.tables.specs.Key.{Key, identity, relation, sameKey}
 use Rattle.tables.specs.Office.{View}
-use Rattle.tables.proofs.Keys.{same-eq, eq-same}
+use Rattle.sheet.specs.declared.Cells.{Cells}
 use Rattle.sheet.specs.declared.Header.{Header}
-use Rattle.sheet.specs.declared.Node.{Node}
+use Rattle.sheet.specs.declared.Half.the-variants.{Edges}
+use Rattle.sheet.specs.declared.Place.{Place}
 use Rattle.sheet.specs.declared.Edge.{Edge}
 use Rattle.sheet.specs.declared.Seat.{Seat}
-use Rattle.sheet.specs.Limits.{nodeWords, edgesFrom}
-use Rattle.sheet.specs.Rows.{headerOf, nodeAt, edgeAt, edgeOf, edgeTable, nodeKey, nodeKeyAt}
-use Rattle.sheet.specs.Accepted.{WellFormed, EdgeShaped, Accepted}
-use Rattle.sheet.specs.Named.{edgeRow}
+use Rattle.sheet.specs.Rows.{headerOf, edgeAt, edgeOf, edgeTable, edgeKey, nodeKeyAt, rowKey}
+use Rattle.sheet.specs.Accepted.{RowsRise, WellFormed, Accepted}
+use Rattle.sheet.specs.Found.{FoundIs}
+use Rattle.sheet.specs.Named.{nodeRow}
 use Rattle.sheet.specs.Seats.{countsAt, seenFrom}
 use Rattle.sheet.proofs.Accepting.{or-false}
-use Rattle.sheet.proofs.Naming.{edge-seen, seen-edge}
+use Rattle.sheet.proofs.Naming.{node-seen, edge-seen, ends-seen, rows-named, named-rows, row-seen}
+use Rattle.sheet.proofs.Places.{found-there, found-not, half-rises}
 use Rattle.paths.specs.Leads.{among, leads}
-use Rattle.paths.proofs.Tests.{and-left, and-right, both, or-cases}
+use Rattle.paths.proofs.Tests.{both, or-cases}
 use Rattle.meaning.specs.Paths.{Side, rightKind, category, deed, member, contained, applies, step, carries, path, pairs, spell, firsts, isPath}
 use Rattle.meaning.proofs.Spelling.{spelt, spell-long}
 use Rattle.question.specs.declared.Question.{Question}
 use Rattle.question.specs.Asked.{sideOf, seatFor, asked, badOffice}
-use Rattle.claim.specs.Listed.{rowOf, everySecond, hasSecond, framed, wayFrom, goesOn}
+use Rattle.claim.specs.Listed.{everySecond, hasSecond, framed, wayFrom, goesOn}
 use Rattle.question.specs.Checked.{AtSeat}
 use Rattle.sheet.proofs.Forming.{words-of}
-use Rattle.sheet.proofs.Reading.{row-under, node-room}
+use Rattle.sheet.proofs.Reading.{row-under}
 use Rattle.question.proofs.Known.{side-grant, side-ban}
 
--- ---- a relation is seen exactly if a row of the edge table is it
+-- ---- a relation is seen exactly if the edge row between the rows of its ends stands and counts
 
-module _ (s t : List ℕ) (h : Header) (seat : Seat) (o : AtSeat s t h seat) (kind : ℕ) (a b : Node) where
+module _ (s t : List ℕ) (h : Header) (seat : Seat) (o : AtSeat s t h seat) where
   acc : Accepted s
   acc = words-of s t h (o .formed)
 
-  abbrev seen : Bool
-  seen = seenFrom s seat .edge (relation kind (nodeKey a) (nodeKey b))
+  -- the words' own edge table
+  pub own-edges : WellFormed s (edgeTable s) h
+  own-edges = subst (λ (x : List ℕ). WellFormed s x h) (o .formed .table) (o .formed)
 
-  -- the test of a row, over the words alone
-  own-row : (j : ℕ) → rowOf s t seat kind a b j ≡ rowOf s (edgeTable s) seat kind a b j
-  own-row j = ap (λ (x : List ℕ). rowOf s x seat kind a b j) (o .formed .table)
+  -- what the searches tell
+  abbrev InNodes : Key → Place → Type 0
+  InNodes k p = FoundIs (nodeKeyAt s) (h .nodes) k p
 
-  row-seen : (j : ℕ) → j < headerOf s .edges → rowOf s (edgeTable s) seat kind a b j ≡ true → seen ≡ true
-  unfolding rowOf edgeRow
-  row-seen j l e =
-      let r = and-right (eqb (edgeOf s j .kind) kind) _ e in
-      let n = and-right (countsAt seat (edgeOf s j)) _ r in
-      let u : edgeOf s j .kind ≡ kind = eqb-true _ kind (and-left (eqb (edgeOf s j .kind) kind) _ e) in
-      let x : nodeKeyAt s (edgeOf s j .from) ≡ nodeKey a = same-eq _ _ (and-left (sameKey (nodeKeyAt s (edgeOf s j .from)) (nodeKey a)) _ n) in
-      let y : nodeKeyAt s (edgeOf s j .to) ≡ nodeKey b = same-eq _ _ (and-right (sameKey (nodeKeyAt s (edgeOf s j .from)) (nodeKey a)) _ n) in
-      seen-edge s acc (seat .office) _ (record { row = j; inside = l; names = joined u x y; bears = and-left (countsAt seat (edgeOf s j)) _ r })
-    where
-      joined : {i i′ : ℕ} {x x′ y y′ : Key} → i ≡ i′ → x ≡ x′ → y ≡ y′ → relation i x y ≡ relation i′ x′ y′
-      joined e f g = rw (e, f, g) refl
+  abbrev InEdges : Key → Place → Type 0
+  InEdges k p = FoundIs (λ j. edgeKey (edgeOf s j)) (h .edges) k p
 
-  related-row : seen ≡ true → (j : ℕ) × (j < headerOf s .edges) × (rowOf s (edgeTable s) seat kind a b j ≡ true)
-  unfolding rowOf edgeRow
-  related-row e =
-      let r = edge-seen s acc (seat .office) _ e in
-      let u : edgeOf s (r .row) .kind ≡ kind = cc (r .names) in
-      let x : nodeKeyAt s (edgeOf s (r .row) .from) ≡ nodeKey a = cc (r .names) in
-      let y : nodeKeyAt s (edgeOf s (r .row) .to) ≡ nodeKey b = cc (r .names) in
-      (r .row, r .inside, both (eq-eqb _ kind u) (both (r .bears) (both (eq-same _ _ x) (eq-same _ _ y))))
+  node-there : (k : Key) (p : Place) → InNodes k p → p .found ≡ true → (p .row < headerOf s .nodes) × (nodeKeyAt s (p .row) ≡ k)
+  node-there k p f e =
+      let x = found-there (nodeKeyAt s) (h .nodes) (o .formed .nodes .rise) k p f e in
+      (subst (λ (y : Header). p .row < y .nodes) (o .formed .head) (x .0), x .1)
 
-  pub related-by : (j : ℕ) → j < h .edges → rowOf s t seat kind a b j ≡ true → true ≡ seen
-  related-by j l e = sym (row-seen j (subst (λ (x : Header). j < x .edges) (o .formed .head) l) (sym (own-row j) ∙ e))
+  edges-up-to : RowsRise (λ j. edgeKey (edgeOf s j)) (h .edges)
+  edges-up-to = half-rises Edges s h own-edges
 
-  pub related-none : ((j : ℕ) → j < h .edges → rowOf s t seat kind a b j ≡ false) → false ≡ seen
-  related-none n = go seen refl
-    where
-      go : (x : Bool) → seen ≡ x → false ≡ seen
-      go false e = sym e
-      go true e =
-          let r = related-row e in
-          absurd (false≢true (sym (n (r .0) (subst (λ (x : Header). r .0 < x .edges) (sym (o .formed .head)) (r .1))) ∙ own-row (r .0) ∙ r .2))
+  pub edge-there : (k : Key) (p : Place) → InEdges k p → p .found ≡ true → (p .row < h .edges) × (edgeKey (edgeOf s (p .row)) ≡ k)
+  edge-there k p f e = found-there (λ j. edgeKey (edgeOf s j)) (h .edges) edges-up-to k p f e
 
--- ---- the test that the code makes at a row
+  -- an identity in no node row is seen nowhere
+  no-node : (k : Key) (p : Place) → InNodes k p → p .found ≡ false → seenFrom s seat .node k ≡ true → ⊥
+  unfolding nodeRow
+  no-node k p f e n =
+      let r = node-seen s acc (seat .office) k n in
+      found-not (nodeKeyAt s) (h .nodes) (o .formed .nodes .rise) k p f e (r .row) (subst (λ (y : Header). r .row < y .nodes) (sym (o .formed .head)) (r .inside)) (r .names)
 
-pub end-room : (s t : List ℕ) (h : Header) (j : ℕ) (e : Edge) → WellFormed s t h → j < h .edges → e ≡ edgeAt h t j → (edgesFrom (e .from) + nodeWords ≤ length s) × (edgesFrom (e .to) + nodeWords ≤ length s)
-end-room s t h j e w l q =
-    let p = subst (EdgeShaped h) (sym q) (w .edges .shaped j l) in
-    (node-room s t h w (e .from) (p .from), node-room s t h w (e .to) (p .to))
+  module _ (kind : ℕ) (a b : Cells) where
+    abbrev seen : Bool
+    seen = seenFrom s seat .edge (relation kind (rowKey a) (rowKey b))
 
-module _ (s t : List ℕ) (h : Header) (w : WellFormed s t h) (seat : Seat) (kind : ℕ) (a b : Node) (j : ℕ) (e : Edge) (q : e ≡ edgeAt h t j) (x : Node) (f : x ≡ nodeAt s (e .from)) where
-  -- from the wanted identity or from another
-  row-from : (u : Bool) → sameKey (nodeKey x) (nodeKey a) ≡ u → rowOf s t seat kind a b j ≡ (eqb (e .kind) kind && (countsAt seat e && (u && sameKey (nodeKeyAt s (e .to)) (nodeKey b))))
-  unfolding rowOf
-  row-from u m = let own : e ≡ edgeAt (headerOf s) t j = q ∙ row-under s t h w j in rw (← own, ← f, m) refl
+    none : (seen ≡ true → ⊥) → false ≡ seen
+    none n = go seen refl
+      where
+        go : (x : Bool) → seen ≡ x → false ≡ seen
+        go false e = sym e
+        go true e = absurd (n e)
 
-  pub row-elsewhere : sameKey (nodeKey x) (nodeKey a) ≡ false → false ≡ rowOf s t seat kind a b j
-  row-elsewhere m = sym (row-from false m ∙ none (eqb (e .kind) kind) (countsAt seat e))
-    where
-      none : (u v : Bool) → (u && (v && false)) ≡ false
-      none true true = refl
-      none true false = refl
-      none false v = refl
+    ends : seen ≡ true → (seenFrom s seat .node (rowKey a) ≡ true) × (seenFrom s seat .node (rowKey b) ≡ true)
+    ends e = let x = ends-seen s acc (seat .office) kind _ _ _ _ _ _ e in (x .0, x .1)
 
-  pub row-is : sameKey (nodeKey x) (nodeKey a) ≡ true → (y : Node) → y ≡ nodeAt s (e .to) → (c v : Bool) → c ≡ countsAt seat e → v ≡ sameKey (nodeKey y) (nodeKey b) → (eqb (e .kind) kind && (c && v)) ≡ rowOf s t seat kind a b j
-  row-is m y g c v p n = sym (row-from true m ∙ rw (p, n, g) refl)
+    pub not-from : (p : Place) → InNodes (rowKey a) p → p .found ≡ false → false ≡ seen
+    not-from p f e = none (λ g. no-node (rowKey a) p f e (ends g .0))
+
+    pub not-to : (p : Place) → InNodes (rowKey b) p → p .found ≡ false → false ≡ seen
+    not-to p f e = none (λ g. no-node (rowKey b) p f e (ends g .1))
+
+    -- both ends were found: the relation's row is the one between their rows
+    module _ (p q : Place) (f : InNodes (rowKey a) p) (pf : p .found ≡ true) (g : InNodes (rowKey b) q) (qf : q .found ≡ true) (k : Key) (named : k ≡ identity kind (p .row) (q .row)) (e : Place) (x : InEdges k e) where
+      by-ends : relation kind (nodeKeyAt s (p .row)) (nodeKeyAt s (q .row)) ≡ relation kind (rowKey a) (rowKey b)
+      by-ends = let u = node-there (rowKey a) p f pf .1 in let v = node-there (rowKey b) q g qf .1 in λ i. relation kind (u i) (v i)
+
+      pub not-edge : e .found ≡ false → false ≡ seen
+      not-edge n =
+          none
+          (λ y.
+          let r = edge-seen s acc (seat .office) _ y in
+          let z = named-rows s acc (r .row) kind (p .row) (q .row) (r .inside) (node-there (rowKey a) p f pf .0) (node-there (rowKey b) q g qf .0) (r .names ∙ sym by-ends) in
+          found-not (λ j. edgeKey (edgeOf s j)) (h .edges) edges-up-to k e x n (r .row) (subst (λ (y : Header). r .row < y .edges) (sym (o .formed .head)) (r .inside)) (z ∙ sym named))
+
+      pub edge-counts : e .found ≡ true → (d : Edge) (r : Bool) → d ≡ edgeAt h t (e .row) → r ≡ countsAt seat d → r ≡ seen
+      edge-counts y d r m z =
+          let w = edge-there k e x y in
+          let n = rows-named s (e .row) kind (p .row) (q .row) (w .1 ∙ named) ∙ by-ends in
+          let l = subst (λ (y : Header). e .row < y .edges) (o .formed .head) (w .0) in
+          let own : d ≡ edgeOf s (e .row) = m ∙ row-under s t h (o .formed) (e .row) ∙ ap (λ (y : List ℕ). edgeAt (headerOf s) y (e .row)) (o .formed .table) in
+          z ∙ ap (λ (y : Edge). countsAt seat y) own ∙ sym (row-seen s acc (seat .office) (e .row) l) ∙ ap (λ (y : Key). seenFrom s seat .edge y) n
 
 -- ---- relations between named identities
 
 module _ (g : View) where
-  pub relation-named : (kind : ℕ) (a b : Node) (x y : Key) (r : Bool) → nodeKey a ≡ x → nodeKey b ≡ y → r ≡ g .edge (relation kind (nodeKey a) (nodeKey b)) → r ≡ g .edge (relation kind x y)
-  relation-named kind a b x y r e f q = q ∙ ap (λ (z : Key). g .edge (relation kind z (nodeKey b))) e ∙ ap (λ (z : Key). g .edge (relation kind x z)) f
+  pub relation-named : (kind : ℕ) (a b : Cells) (x y : Key) (r : Bool) → rowKey a ≡ x → rowKey b ≡ y → r ≡ g .edge (relation kind (rowKey a) (rowKey b)) → r ≡ g .edge (relation kind x y)
+  relation-named kind a b x y r e f q = q ∙ ap (λ (z : Key). g .edge (relation kind z (rowKey b))) e ∙ ap (λ (z : Key). g .edge (relation kind x z)) f
 
   pub step-grant : (kind c d : ℕ) (r : Bool) → kind ≡ 0 → r ≡ contained g c d → r ≡ step g (sideOf kind) c d
   step-grant kind c d r e q = q ∙ ap (λ (z : Side). step g z c d) (sym (side-grant kind e))

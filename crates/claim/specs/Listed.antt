@@ -4,20 +4,10 @@ use Prim.Native.Nat.{ℕ, zero, suc, _+_, _*_}
 use mathlib.Core.Bool.{Bool, false, not, _&&_, _||_, Bool·beq}
 use mathlib.Core.List.{List, [], _∷_}
 use lib.ListN.{getD}
-use Rattle.tables.specs.Key.{sameKey}
 use Rattle.tables.specs.Office.{View}
 use Rattle.paths.specs.Leads.{among, leads}
-use Rattle.sheet.specs.declared.Node.{Node}
-use Rattle.sheet.specs.declared.Seat.{Seat}
 use Rattle.sheet.specs.Refusals.{_is_}
-use Rattle.sheet.specs.Rows.{headerOf, edgeAt, nodeKey, nodeKeyAt}
-use Rattle.sheet.specs.Seats.{countsAt}
 use Rattle.meaning.specs.Paths.{Side, step, carries}
-
--- row j of the edge table t has the kind, counts for the seat, and runs from one identity to the other
-unfoldable pub rowOf : List ℕ → List ℕ → Seat → ℕ → Node → Node → ℕ → Bool
-rowOf s t seat kind a b j =
-    edgeAt (headerOf s) t j .kind is kind && (countsAt seat (edgeAt (headerOf s) t j) && (sameKey (nodeKeyAt s (edgeAt (headerOf s) t j .from)) (nodeKey a) && sameKey (nodeKeyAt s (edgeAt (headerOf s) t j .to)) (nodeKey b)))
 
 -- every second word, m of them from a place on
 abbrev pub everySecond : List ℕ → ℕ → ℕ → List ℕ

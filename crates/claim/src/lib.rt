@@ -5,11 +5,12 @@ use question::Question;
 use sheet::APPLIES;
 use sheet::CATEGORY;
 use sheet::CONTAINED;
+use sheet::Cells;
 use sheet::DEED;
 use sheet::FOLIO;
+use sheet::Half;
 use sheet::Header;
 use sheet::MEMBER;
-use sheet::Node;
 use sheet::PERSON;
 use sheet::Seat;
 ghost use mathlib.Core.Path.{_≡_};
@@ -17,62 +18,43 @@ ghost use Prim.Native.Nat.{_+_, _*_, _<_, _≤_};
 ghost use lib.ListN.{length, getD};
 ghost use Rattle.tables.specs.Count.{numberOf};
 ghost use Rattle.tables.specs.Key.{relation};
-ghost use Rattle.sheet.specs.Rows.{headerOf, nodeKey};
+ghost use Rattle.sheet.specs.Rows.{headerOf, rowKey};
 ghost use Rattle.sheet.specs.Accepted.{WellFormed};
 ghost use Rattle.sheet.specs.Seats.{Seated, seenFrom};
 ghost use Rattle.meaning.specs.Paths.{member, step, carries, isPath};
 ghost use Rattle.question.specs.Asked.{asked, badOffice, plain, sideOf};
 ghost use Rattle.question.specs.Replies.{Replies};
 ghost use Rattle.question.specs.Checked.{AtSeat};
-ghost use Rattle.claim.specs.Listed.{rowOf, hasSecond, framed, wayFrom, goesOn};
+ghost use Rattle.claim.specs.Listed.{hasSecond, framed, wayFrom, goesOn};
 ghost use Rattle.claim.specs.Promises.{TellsPath};
 
-// Whether an edge row has the kind, counts for the seat, and runs from one identity to the other. Few rows leave an identity, so that end is looked at first.
-fn is_row_of(
-    sheet: &[u32],
-    edges: &[u32],
-    h: Header,
-    seat: Seat,
-    kind: u32,
-    a: Node,
-    b: Node,
-    j: usize,
-) -> bool
-    requires { ⌜ WellFormed (now sheet) (now edges) h × Seated seat × (j < h .edges) ⌝ }
-    ensures { λ r. ⌜ r ≡ rowOf (now (sheet .entry)) (now (edges .entry)) seat kind a b j ⌝ }
-{
-    let e = sheet::edge_at(edges, h, j);
-    let from = sheet::node_at(sheet, e.from as usize);
-    if !sheet::same_node(from, a) {
-        return false;
-    }
-    let to = sheet::node_at(sheet, e.to as usize);
-    let counts = sheet::counts(seat, e);
-    (e.kind == kind) & (counts & sheet::same_node(to, b))
-}
-
-// Whether a relation of a kind between two identities is seen from the seat.
+// Whether a relation of a kind between two identities is seen from the seat: both are looked for, then the edge row between their rows.
 fn is_related(
     sheet: &[u32],
     edges: &[u32],
     h: Header,
     seat: Seat,
     kind: u32,
-    a: Node,
-    b: Node,
+    a: Cells,
+    b: Cells,
 ) -> bool
     requires { ⌜ AtSeat (now sheet) (now edges) h seat ⌝ }
-    ensures { λ r. ⌜ r ≡ seenFrom (now (sheet .entry)) seat .edge (relation kind (nodeKey a) (nodeKey b)) ⌝ }
+    ensures { λ r. ⌜ r ≡ seenFrom (now (sheet .entry)) seat .edge (relation kind (rowKey a) (rowKey b)) ⌝ }
 {
-    let n = h.edges as usize;
-    let mut j: usize = 0;
-    while j < n {
-        if is_row_of(sheet, edges, h, seat, kind, a, b, j) {
-            return true;
-        }
-        j += 1;
+    let from = sheet::find_row(Half::Nodes, sheet, h, a);
+    if !from.found {
+        return false;
     }
-    false
+    let to = sheet::find_row(Half::Nodes, sheet, h, b);
+    if !to.found {
+        return false;
+    }
+    let wanted = sheet::named(kind, from.row as u32, to.row as u32);
+    let edge = sheet::find_row(Half::Edges, sheet, h, wanted);
+    if !edge.found {
+        return false;
+    }
+    sheet::counts(seat, sheet::edge_at(edges, h, edge.row))
 }
 
 // Whether the person is a member of the category.

@@ -7,3 +7,4 @@ pub mod Laying
 pub mod Whole
 pub mod Ruling
 pub mod Single
+pub mod Mistakes

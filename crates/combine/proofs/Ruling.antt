@@ -3,17 +3,18 @@
 use Prim.Native.Nat.{ℕ, suc, _+_, _*_, _/_, _%_, _^_, _<_, _≤_}
 use mathlib.Core.Path.{_≡_, refl, sym, subst, _∙_}
 use mathlib.Core.List.{List}
-use mathlib.Core.Bool.{true}
+use mathlib.Core.Bool.{Bool, true, false, _||_}
 use native.Mathlib.Omega.{arith}
 use native.Mathlib.Nat.{mul-zero, mod-lt, zero-div, zero-mod}
+use lib.Bits.{bitOr, or-lt}
 use lib.Pow.{pow-pos, pow-mono}
 use Rattle.tables.specs.Marks.{marked, within}
-use Rattle.tables.proofs.Marks.{within-marked, fits-within, either-run, marked-first, marked-second, both-fit, marked-run}
+use Rattle.tables.proofs.Marks.{within-marked, fits-within, either-run, marked-first, marked-second, both-fit, marked-run, marked-or}
 use Rattle.sheet.specs.declared.Header.{Header}
 use Rattle.sheet.specs.Limits.{maxOffices}
 use Rattle.sheet.specs.Rows.{edgeTable}
 use Rattle.sheet.specs.Accepted.{WellFormed}
-use Rattle.combine.specs.declared.Rule.the-variants.{Beside}
+use Rattle.combine.specs.declared.Rule.the-variants.{Beside, Either}
 use Rattle.combine.specs.Rules.{makes, Sound, Rules}
 use Rattle.combine.specs.Sheets.{Pair}
 
@@ -73,3 +74,34 @@ run-rules a b k n low span p q = record { nodes = sound; edges = sound; inside =
         rw (p, q)
         (fits-within n (x / 2 ^ k % 2 ^ n) (m / 2 ^ k % 2 ^ n) (high x)
         (λ u l d. marked-run k n m u l ∙ within-marked x m (suc (k + u)) i (sym (marked-run k n x u l) ∙ d)))
+
+-- ---- the marks of either
+
+either-true : (a b : Bool) → (a ≡ true → b ≡ true) → (c d : Bool) → (c ≡ true → d ≡ true) → (a || c) ≡ true → (b || d) ≡ true
+either-true true b f c d g e = rw (f refl) refl
+either-true false true f c d g e = refl
+either-true false false f c d g e = g e
+
+pub either-rules : (a : ℕ) → Rules bitOr bitOr a a a
+either-rules a = record { nodes = sound; edges = sound; inside = inside }
+  where
+    sound : Sound bitOr a a a
+    sound = record { none = refl; fits = λ x y l d. or-lt a x y l d }
+
+    inside : (x y p q : ℕ) → x < 2 ^ a → p < 2 ^ a → y < 2 ^ a → q < 2 ^ a → within x p ≡ true → within y q ≡ true → within (bitOr x y) (bitOr p q) ≡ true
+    inside x y p q lx lp ly lq i j =
+        fits-within a (bitOr x y) (bitOr p q) (or-lt a x y lx ly)
+        (λ k l e. marked-or p q k ∙ either-true _ _ (within-marked x p (suc k) i) _ _ (within-marked y q (suc k) j) (sym (marked-or x y k) ∙ e))
+
+-- .. of two sheets of one office count
+pub either-pair : (a : List ℕ) (h : Header) (b : List ℕ) (g : Header) → WellFormed a (edgeTable a) h → WellFormed b (edgeTable b) g → g .offices ≡ h .offices → Pair Either Either (h .offices) a h b g
+either-pair a h b g v w e =
+    record {
+      first = v;
+      second = w;
+      rules = subst (λ (x : ℕ). Rules (makes Either) (makes Either) (h .offices) x (h .offices)) (sym e) (either-rules (h .offices));
+      safe-nodes = λ x y l d. tt {0};
+      safe-edges = λ x y l d. tt {0};
+      low = v .nodes .header .offices-low;
+      high = v .nodes .header .offices-high;
+    }

@@ -3,20 +3,23 @@
 use Prim.Native.Nat.{ℕ, _+_, _*_, _/_, _%_, _^_, _<_}
 use mathlib.Core.Path.{_≡_}
 use mathlib.Core.Bool.{true}
+use lib.Bits.{bitOr}
 use Rattle.tables.specs.Marks.{within}
 use Rattle.combine.specs.declared.Rule.{Rule}
-use Rattle.combine.specs.declared.Rule.the-variants.{Beside, Run}
+use Rattle.combine.specs.declared.Rule.the-variants.{Beside, Run, Either}
 use Rattle.combine.specs.Combined.{Making}
 
--- the marks that a rule makes: of both, the second's offices behind the first's, which the shift counts; or of a run of the first's offices
+-- the marks that a rule makes: of both, the second's offices behind the first's, which the shift counts; of a run of the first's offices; or of either
 abbrev pub makes : Rule → Making
 makes (Beside shift) x y = x + shift * y
 makes (Run low span) x y = x / low % span
+makes Either x y = bitOr x y
 
 -- the marks that it makes are made in words of 32 bits
 abbrev pub Safe : Rule → ℕ → ℕ → Type 0
 Safe (Beside shift) x y = x + shift * y < 4294967296
 Safe (Run low span) x y = (0 < low) × (0 < span)
+Safe Either x y = Unit {0}
 
 -- of marks of so many offices it makes marks of so many, and none of none
 pub record Sound (F : Making) (a b c : ℕ) : Type 0 where

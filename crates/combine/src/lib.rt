@@ -17,11 +17,12 @@ ghost use Rattle.combine.specs.Rules.{makes, Safe};
 ghost use Rattle.combine.specs.Halves.{through, spelled, Inputs, Moves, MarkedStep, Left, noted, keptRows, Surveyed, Written, storedAt, takenCells};
 ghost use Rattle.combine.specs.Sheets.{Pair, Measured, Laid};
 
-// What is made of the marks of two sheets at one key: the second's behind the first's offices, which the shift counts; or those of
-// a run of the first's offices, from the mark `low` on, as many as the span counts.
+// What is made of the marks of two sheets at one key: the second's behind the first's offices, which the shift counts; those of a
+// run of the first's offices, from the mark `low` on, as many as the span counts; or the marks of either.
 pub enum Rule {
     Beside(u32),
     Run(u32, u32),
+    Either,
 }
 
 // What is made of two sheets: a rule for their nodes, one for their edges, and how many offices the marks are of that they make.
@@ -58,6 +59,7 @@ fn made(rule: Rule, x: u32, y: u32) -> u32
     match rule {
         Rule::Beside(shift) => x + shift * y,
         Rule::Run(low, span) => x / low % span,
+        Rule::Either => x | y,
     }
 }
 
@@ -76,9 +78,9 @@ fn below_at(
 {
     match half {
         Half::Nodes => {
-            let x = sheet::node_at(first, i);
-            let y = sheet::node_at(second, j);
-            sheet::below_node(x, y)
+            let x = sheet::cells_at(Half::Nodes, first, h, i);
+            let y = sheet::cells_at(Half::Nodes, second, g, j);
+            sheet::below_row(x, y)
         }
         Half::Edges => sheet::below_named(first, h, i, second, g, j),
     }

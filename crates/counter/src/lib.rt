@@ -1,11 +1,15 @@
 // The counter: what a program in C or Rust calls. Questions 1 to 3 and the check are asked of a file's bytes, and every other function of a sheet's words.
 use join::Joined;
+use lines::Line;
 use listing::Listing;
 use question::Answer;
 use question::Question;
+use sheet::Edge;
 use sheet::MAX_WORDS;
+use sheet::Node;
 use sheet::Refusal;
 ghost use mathlib.Core.Path.{_≡_};
+ghost use mathlib.Core.List.{[], _∷_};
 ghost use lib.ListN.{length};
 ghost use Rattle.tables.specs.Key.{identity};
 ghost use Rattle.sheet.specs.Limits.{maxWords};
@@ -21,6 +25,10 @@ ghost use Rattle.join_files.specs.JoinedFiles.{JoinsFiles};
 ghost use Rattle.ask.specs.Promises.{AnswersAtOffice, AnswersJointly, WitnessOf, Witnesses};
 ghost use Rattle.claim.specs.Promises.{TellsPath};
 ghost use Rattle.lists.specs.Promises.{ListsPersonsInCategory, ListsPersonsWithGrant, ListsFoliosOutOfReach, ShowsLeastTriple, ShowsLeastHolder, ListsRedundantEdges};
+ghost use Rattle.sheet.specs.declared.Half.the-variants.{Nodes, Edges};
+ghost use Rattle.find.specs.Promises.{TellsPlace};
+ghost use Rattle.add.specs.Adding.{AddsNode, AddsEdge};
+ghost use Rattle.lines.specs.Nine.{said};
 ghost use Rattle.listing.specs.Promises.{ReadsListing, WritesListing};
 ghost use Rattle.counter.specs.Filed.{asking, seeking, WasRead, afterFile, InBytes};
 
@@ -463,6 +471,72 @@ pub extern "C" fn tormukai_look_up_refusal(
     ensures { λ r. ⌜ r ≡ lookFault (now (first .entry)) (now (second .entry)) (identity class number variant) ⌝ }
 {
     lookup::look_up_refusal(first, second, class, number, variant)
+}
+
+// Whether a node stands in a sheet, 1 yes and 0 no in `value`, and the row at which it stands or would stand in `count`.
+#[no_mangle]
+pub extern "C" fn tormukai_find_node(sheet: &[u32], class: u32, number: u32, variant: u32) -> Answer
+    ensures { λ a. ⌜ TellsPlace Nodes (now (sheet .entry)) (identity class number variant) a ⌝ }
+{
+    find::find_node(sheet, class, number, variant)
+}
+
+// Whether an edge stands in a sheet, its ends by node rows, and the row at which it stands or would stand.
+#[no_mangle]
+pub extern "C" fn tormukai_find_edge(sheet: &[u32], kind: u32, from: u32, to: u32) -> Answer
+    ensures { λ a. ⌜ TellsPlace Edges (now (sheet .entry)) (kind ∷ from ∷ to ∷ []) a ⌝ }
+{
+    find::find_edge(sheet, kind, from, to)
+}
+
+// Adds a node row to a sheet: the row at which it stands in `value`, how many words in `count`.
+#[no_mangle]
+pub extern "C" fn tormukai_add_node(
+    sheet: &[u32],
+    class: u32,
+    number: u32,
+    variant: u32,
+    offices: u32,
+    out: &mut [u32],
+) -> Answer
+    ensures { λ a. ⌜ AddsNode (now (sheet .entry)) (record { class = class; number = number; variant = variant; offices = offices }) (now (out .entry)) a (now (out .exit)) ⌝ }
+{
+    let row = Node {
+        class: class,
+        number: number,
+        variant: variant,
+        offices: offices,
+    };
+    add::add_node(sheet, row, out)
+}
+
+// Adds an edge row to a sheet, its ends by node rows of that sheet.
+#[no_mangle]
+pub extern "C" fn tormukai_add_edge(
+    sheet: &[u32],
+    kind: u32,
+    from: u32,
+    to: u32,
+    offices: u32,
+    out: &mut [u32],
+) -> Answer
+    ensures { λ a. ⌜ AddsEdge (now (sheet .entry)) (record { kind = kind; from = from; to = to; offices = offices }) (now (out .entry)) a (now (out .exit)) ⌝ }
+{
+    let row = Edge {
+        kind: kind,
+        from: from,
+        to: to,
+        offices: offices,
+    };
+    add::add_edge(sheet, row, out)
+}
+
+// What one line of a listing says, without its line feed.
+#[no_mangle]
+pub extern "C" fn tormukai_read_line(line: &[u8]) -> Line
+    ensures { λ r. ⌜ r ≡ said (now (line .entry)) ⌝ }
+{
+    lines::read_line(line)
 }
 
 // Reads a text as a listing into a one-office sheet: how many words in `count`. A line is told by its number, from 0, in `row`.

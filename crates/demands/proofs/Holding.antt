@@ -51,7 +51,7 @@ use Rattle.takeout.proofs.Back.{first-taken, second-taken}
 use Rattle.demands.specs.Demands.{NoSuch, PathOf, RowPartOf, OfWords, Demand1, Demand2, Sheet, Union, JointSheet, Demand3}
 use Rattle.demands.proofs.Counting.{nodes-union, edges-union}
 use Rattle.demands.proofs.Together.{not-refusing, none-refuses, no-two-pairs, takes-out, joins-again, asked-combined, asked-within}
-use Rattle.demands.proofs.Keeping.{sheet-says, lookup-says, file-says, joins-keep, files-keep, writer-keeps, shows-keep}
+use Rattle.demands.proofs.Keeping.{search-says, adding-keeps, sheet-says, lookup-says, file-says, joins-keep, files-keep, writer-keeps, shows-keep}
 use Rattle.listing.specs.Printed.{printed, printFault}
 use Rattle.demands.proofs.Listed.{gives-keeps, reading-keeps}
 use Rattle.demands.proofs.Existing.{persons-some, holders-some, unreached-some, redundant-some, office-some}
@@ -178,6 +178,8 @@ demand-1 = record {
   question-9 = λ s q out x. shows-keep _ _ _ (least-holder-one (asked s q) (q .deed) (q .other)) (λ z. no-pair s q) out x;
   question-10 = λ s q out x. shows-keep _ _ _ (redundant-edges-one s (q .office)) (λ z. never-missing (redundant-some s (sheet-passed s _ z) (q .office))) out x;
   take-out = λ s office out x. shows-keep _ _ _ (taken-one s (office - 1) 1) (λ z. never-missing (office-some s (sheet-passed s _ z) (office - 1))) out x;
+  searching = λ half s k x. search-says half s k x;
+  adding = λ half s c out x. adding-keeps half s c out x;
   join = λ a b out x. joins-keep a b out x;
   join-files = λ f g out x. files-keep f g out x;
   opened = as-words;

@@ -9,9 +9,12 @@ use lib.ListN.{length, drop, length-append, length-drop}
 use lib.Seq.{drop-at}
 use borrow.Author.Tests.{ltb-false}
 use Rattle.sheet.specs.Rows.{headerOf}
+use Rattle.sheet.specs.declared.Cells.{Cells}
+use Rattle.sheet.specs.declared.Half.{Half}
 use Rattle.sheet.specs.declared.Refusal.{Refusal}
 use Rattle.sheet.specs.Refusals.{none, refuse, _then_, short as shorter, written as written-by, Writes}
 use Rattle.sheet.specs.Verdict.{verdict}
+use Rattle.sheet.proofs.Accepting.{accepted, not-refused as not-refused-by}
 use Rattle.sheet.proofs.Refusing.{refuse-none, refuse-good, line-good, then-good}
 use Rattle.question.specs.declared.Answer.{Answer}
 use Rattle.question.specs.Asked.{plain, afterSheet}
@@ -24,7 +27,11 @@ use Rattle.lookup.specs.Looked.{neither, lookFault, StandsIn, PlacesIdentity}
 use Rattle.join.specs.declared.Joined.{Joined}
 use Rattle.join.specs.Joins.{tooMuch, unionNodes, unionEdges, sheetsFault, unionFault, joinFault, JoinsAs, Joining, joined, refused as not-joined}
 use Rattle.join_files.specs.JoinedFiles.{filesFault, JoinsFiles}
-use Rattle.demands.specs.Demands.{saidIn, saidOf, NoSuch, Judged, by-the-table, no-such, too-short, not-refused, Keeps, InFront}
+use Rattle.meaning.specs.Added.{IsAdded}
+use Rattle.find.specs.Promises.{TellsPlace}
+use Rattle.add.specs.Adding.{addFault, AddsRow, refused as not-added, short as too-little, written as was-written}
+use Rattle.add.proofs.Placing.{added-one}
+use Rattle.demands.specs.Demands.{saidIn, saidOf, NoSuch, Judged, by-the-table, no-such, too-short, not-refused, Keeps, KeepsTable, InFront}
 
 -- what refuses by 0 is no refusal
 none-by-0 : (k p i : ℕ) → refuse k p i none .number ≡ 0 → refuse k p i none ≡ none
@@ -154,3 +161,17 @@ module _ (refusal : Refusal) (Missing : Type 0) (R : List ℕ → Type 0) (one :
   shows-keep (missing z n) = keeping (no-such z (same z .0 n)) (λ e. omega (arith, e)) 0
   shows-keep (short ws z x l) = keeping (too-short ws z x l) (λ e. omega (arith, e)) 0
   shows-keep (written ws z x l) = let j = not-refused ws z x l in record { first = j; no-other = λ r k. judged-one k j; untouched = λ h. absurd (h refl); only = λ e. only-front ws out _ refl l }
+
+-- ---- a search, and a row that is added
+
+verdict-by-0 : (s : List ℕ) → verdict 1 s .number ≡ 0 → verdict 1 s ≡ none
+verdict-by-0 s z = not-refused-by 1 s (accepted 1 s z)
+
+pub search-says : (half : Half) (s : List ℕ) (k : Key) {a : Answer} → TellsPlace half s k a → saidIn a ≡ verdict 1 s
+search-says half s k = replies-say (verdict 1 s) _ (verdict-by-0 s)
+
+-- the row that is told is no part of what the table says
+pub adding-keeps : (half : Half) (s : List ℕ) (c : Cells) (out : List ℕ) {a : Answer} {out′ : List ℕ} → AddsRow half s c out a out′ → KeepsTable (afterSheet s) (addFault half s c) ⊥ (IsAdded half s c) out a out′
+adding-keeps half s c out (not-added h) = shows-keep _ ⊥ (IsAdded half s c) (added-one half s c) (λ z. absurd (h z)) out (refused h)
+adding-keeps half s c out (too-little i t z x l) = shows-keep _ ⊥ (IsAdded half s c) (added-one half s c) (λ y. (λ n. n t (x .0), λ b. absurd b)) out (short t z (x .0) l)
+adding-keeps half s c out (was-written i t z x l) = shows-keep _ ⊥ (IsAdded half s c) (added-one half s c) (λ y. (λ n. n t (x .0), λ b. absurd b)) out (written t z (x .0) l)

@@ -7,6 +7,8 @@ pub mod Answering
 pub mod Listed
 pub mod Pruned
 pub mod PrunedCases
+pub mod JointPlaces
+pub mod Added
 pub mod Holding
 pub mod MistakesOfRefusals
 pub mod MistakesOfAnswers

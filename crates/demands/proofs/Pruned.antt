@@ -47,7 +47,7 @@ listed-row s q j L = front-is _ _ _ (L .replies) (L .not-refused) .sound j (L .l
 
 -- ---- replies that say the same
 
-replies-as : (r r′ : Refusal) (P P′ : ℕ → ℕ → Type 0) → r ≡ r′ → ((v c : ℕ) → P v c → P′ v c) → {a : Answer} → Replies r P a → Replies r′ P′ a
+pub replies-as : (r r′ : Refusal) (P P′ : ℕ → ℕ → Type 0) → r ≡ r′ → ((v c : ℕ) → P v c → P′ v c) → {a : Answer} → Replies r P a → Replies r′ P′ a
 replies-as r r′ P P′ e f {a} x = subst (λ (z : Refusal). Replies z P′ a) e (go x)
   where
     go : {b : Answer} → Replies r P b → Replies r P′ b
@@ -55,7 +55,7 @@ replies-as r r′ P P′ e f {a} x = subst (λ (z : Refusal). Replies z P′ a) 
     go (answered v c z p) = answered v c z (f v c p)
 
 -- a question's own refusal is all there is where the sheet is accepted
-after-same : (s t : List ℕ) (k k′ : ℕ) → Accepted s → Accepted t → k ≡ k′ → afterSheet t k ≡ afterSheet s k′
+pub after-same : (s t : List ℕ) (k k′ : ℕ) → Accepted s → Accepted t → k ≡ k′ → afterSheet t k ≡ afterSheet s k′
 unfolding afterSheet
 after-same s t k k′ v w e = then-none (verdict 1 t) (plain k) (not-refused 1 t w) ∙ ap plain e ∙ sym (then-none (verdict 1 s) (plain k′) (not-refused 1 s v))
 

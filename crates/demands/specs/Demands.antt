@@ -10,6 +10,8 @@ use mathlib.Core.Logic.{_↔_}
 use lib.ListN.{length, take, drop}
 use Rattle.tables.specs.Key.{Key}
 use Rattle.tables.specs.Table.{marksAt}
+use Rattle.sheet.specs.declared.Cells.{Cells}
+use Rattle.sheet.specs.declared.Half.{Half}
 use Rattle.sheet.specs.declared.Refusal.{Refusal}
 use Rattle.sheet.specs.Parts.{Part}
 use Rattle.sheet.specs.Limits.{maxNodes, maxEdges, sheetWords, maxBytes}
@@ -43,6 +45,9 @@ use Rattle.join.specs.declared.Joined.{Joined}
 use Rattle.join.specs.Joins.{sharedNodes, sharedEdges, unionNodes, unionEdges, joinFault, Joining}
 use Rattle.join_files.specs.JoinedFiles.{filesFault, JoinsFiles}
 use Rattle.takeout.specs.Promises.{TakesOut}
+use Rattle.find.specs.Promises.{TellsPlace}
+use Rattle.add.specs.Adding.{addFault, AddsRow}
+use Rattle.meaning.specs.Added.{IsAdded}
 use Rattle.listing.specs.declared.Listing.{Listing}
 use Rattle.listing.specs.Cut.{linesSaid}
 use Rattle.listing.specs.Faults.{nodeLines, edgeLines, listingFault}
@@ -132,6 +137,10 @@ pub record Demand1 : Type 0 where
       → KeepsTable (afterSheet s) (badOffice (headerOf s) (q .office)) ⊥ (RedundantEdgesAre s (q .office)) out a out′
   pub take-out : (s : List ℕ) (office : ℕ) (out : List ℕ) {a : Answer} {out′ : List ℕ} → TakesOut s office out a out′
       → KeepsTable (afterSheet s) (badOffice (headerOf s) office) ⊥ (IsTaken s (office - 1) 1) out a out′
+  -- a search refuses only for the sheet
+  pub searching : (half : Half) (s : List ℕ) (k : Key) {a : Answer} → TellsPlace half s k a → saidIn a ≡ verdict 1 s
+  -- a row is refused for the sheet, for itself, where it is there, where no row is free; there always is a sheet with the row more
+  pub adding : (half : Half) (s : List ℕ) (c : Cells) (out : List ℕ) {a : Answer} {out′ : List ℕ} → AddsRow half s c out a out′ → KeepsTable (afterSheet s) (addFault half s c) ⊥ (IsAdded half s c) out a out′
   -- 28 to 30 and 25 are lines of its table
   pub join : (a b out : List ℕ) {r : Joined} {out′ : List ℕ} → Joining a b out r out′ → Keeps (λ x. x ≡ joinFault a b (length out)) (saidOf r) (r .words) out out′
   -- of two files: 33 and 1 to 17 of the first, then of the second

@@ -1,3 +1,4 @@
 pub mod Demands
 pub mod Listings
 pub mod Pruning
+pub mod Additions

@@ -1,5 +1,6 @@
 // Questions 8 and 9 at an office: the least triple that is Both, and the least person and folio with two deeds.
 use question::Question;
+use reach::FoundWords;
 use sheet::BAN;
 use sheet::DEED;
 use sheet::FOLIO;
@@ -7,6 +8,7 @@ use sheet::GRANT;
 use sheet::Header;
 use sheet::Node;
 use sheet::PERSON;
+use sheet::Place;
 use sheet::Seat;
 use walk::Walk;
 ghost use mathlib.Core.Path.{_≡_};
@@ -14,11 +16,12 @@ ghost use mathlib.Core.Bool.{true, false, _&&_, not};
 ghost use Prim.Native.Nat.{_<_, _≤_};
 ghost use lib.ListN.{length};
 ghost use mathlib.Core.List.{[], _∷_};
-ghost use Rattle.tables.specs.Count.{numberOf, FirstStanding};
+ghost use Rattle.tables.specs.Count.{numberOf};
 ghost use Rattle.sheet.specs.Limits.{maxNodes, mostEdges};
 ghost use Rattle.sheet.specs.Refusals.{_is_};
 ghost use Rattle.sheet.specs.Rows.{nodeAt};
 ghost use Rattle.sheet.specs.Accepted.{NodesFormed, WellFormed};
+ghost use Rattle.sheet.specs.Found.{FirstFound};
 ghost use Rattle.sheet.specs.Seats.{Seated, seenFrom};
 ghost use Rattle.walk.specs.Arcs.{Arranged};
 ghost use Rattle.meaning.specs.Questions.{LeastTripleIs, LeastHolderIs};
@@ -147,23 +150,29 @@ fn is_common(sheet: &[u32], h: Header, one: &[u32], two: &[u32], f: u32) -> bool
     (two[at] != 0) & (r.class == FOLIO)
 }
 
-// The first folio row that has a number in both; the node count where there is none.
-fn first_common(sheet: &[u32], h: Header, one: &[u32], two: &[u32]) -> u32
+// The place of the first folio row that has a number in both.
+fn first_common(sheet: &[u32], h: Header, one: &[u32], two: &[u32]) -> Place
     requires { ⌜ NodesFormed (now sheet) h × (h .nodes ≤ length (now one)) × (h .nodes ≤ length (now two)) ⌝ }
-    ensures { λ r. ⌜ FirstStanding (common (now (sheet .entry)) (now (one .entry)) (now (two .entry))) (h .nodes) r ⌝ }
+    ensures { λ r. ⌜ FirstFound (common (now (sheet .entry)) (now (one .entry)) (now (two .entry))) (h .nodes) r ⌝ }
 {
     let n = h.nodes;
     let mut f: u32 = 0;
     while f < n {
         if is_common(sheet, h, one, two, f) {
-            return f;
+            return Place {
+                found: true,
+                row: f as usize,
+            };
         }
         f += 1;
     }
-    n
+    Place {
+        found: false,
+        row: n as usize,
+    }
 }
 
-// The first folio row that the person of a row has by both deeds; the node count where there is none, or the row is no person's.
+// The place of the first folio row that the person of a row has by both deeds; a row that is no person's has none.
 fn pair_folio(
     sheet: &[u32],
     edges: &[u32],
@@ -172,12 +181,15 @@ fn pair_folio(
     w: Walk,
     index: &[u32],
     i: u32,
-) -> u32
+) -> Place
     requires { ⌜ WellFormed (now sheet) (now edges) h × Prepared (now sheet) (now edges) h (w .seat) 3 w (now index) × (i < h .nodes) ⌝ }
     ensures { λ r. ⌜ FirstRow (PairRows (now (sheet .entry)) (w .seat) (q .deed) (q .other) i) (h .nodes) r ⌝ }
 {
     if !is_class(sheet, h, i, PERSON) {
-        return h.nodes;
+        return Place {
+            found: false,
+            row: h.nodes as usize,
+        };
     }
     let d = reach::person_reach(sheet, edges, h, w, index, i);
     let one = rows_by_deed(sheet, edges, h, w, index, d, q.deed);
@@ -219,8 +231,8 @@ fn first_pair(sheet: &[u32], edges: &[u32], h: Header, q: Question, w: Walk, ind
     let mut i: u32 = 0;
     while i < n {
         let f = pair_folio(sheet, edges, h, q, w, index, i);
-        if f < n {
-            return hit_at(sheet, h, i, 0, f);
+        if f.found {
+            return hit_at(sheet, h, i, 0, f.row as u32);
         }
         i += 1;
     }
@@ -235,7 +247,7 @@ pub fn least_holder_at(
     seat: Seat,
     q: Question,
     list: &mut [u32],
-) -> u32
+) -> FoundWords
     requires { ⌜ AtSeat (now sheet) (now edges) h seat × (length (now list) ≡ mostEdges) ⌝ }
     ensures { λ r. ⌜ Finds (LeastHolderIs (seenFrom (now (sheet .entry)) seat) (q .deed) (q .other)) (now (list .exit)) r ⌝ }
 {
@@ -244,11 +256,17 @@ pub fn least_holder_at(
     walk::arrange(sheet, edges, h, w, &mut index);
     let hit = first_pair(sheet, edges, h, q, w, &index);
     if !hit.found {
-        return reach::NONE;
+        return FoundWords {
+            found: false,
+            count: 0,
+        };
     }
     list[0] = hit.person;
     list[1] = hit.folio;
-    2
+    FoundWords {
+        found: true,
+        count: 2,
+    }
 }
 
 // The least triple in row order, which is that of the numbers: a later row of a deed's number has no more than its first.
@@ -291,7 +309,13 @@ fn first_both(
 }
 
 // Question 8 from the seat: the least (person, deed, folio) that is Both, as three words.
-pub fn least_triple_at(sheet: &[u32], edges: &[u32], h: Header, seat: Seat, list: &mut [u32]) -> u32
+pub fn least_triple_at(
+    sheet: &[u32],
+    edges: &[u32],
+    h: Header,
+    seat: Seat,
+    list: &mut [u32],
+) -> FoundWords
     requires { ⌜ AtSeat (now sheet) (now edges) h seat × (length (now list) ≡ mostEdges) ⌝ }
     ensures { λ r. ⌜ Finds (LeastTripleIs (seenFrom (now (sheet .entry)) seat)) (now (list .exit)) r ⌝ }
 {
@@ -303,10 +327,16 @@ pub fn least_triple_at(sheet: &[u32], edges: &[u32], h: Header, seat: Seat, list
     walk::arrange(sheet, edges, h, bans, &mut banindex);
     let hit = first_both(sheet, edges, h, grants, &grantindex, bans, &banindex);
     if !hit.found {
-        return reach::NONE;
+        return FoundWords {
+            found: false,
+            count: 0,
+        };
     }
     list[0] = hit.person;
     list[1] = hit.deed;
     list[2] = hit.folio;
-    3
+    FoundWords {
+        found: true,
+        count: 3,
+    }
 }

@@ -12,6 +12,7 @@ ghost use Rattle.lines.specs.Naming.{isNodeLine, kindNamed, nodeLine, fr
 ghost use Rattle.lines.specs.Fitting.{DigitsAre, andNumber, withNumbers, numbersIn, Passes, byPattern};
 
 // What a line says: its form, 1 to 9 in the order of the nine lines, and its numbers in order; or its fault, 40 or 41.
+#[repr(C)]
 pub struct Line {
     pub fault: u32,
     pub form: u32,

@@ -2,7 +2,7 @@
 -- Assumes nothing.
 use Prim.Native.Nat.{ℕ, suc, _+_, _-_, _<_, _≤_}
 use mathlib.Core.Path.{_≡_, refl, sym, ap, _∙_}
-use mathlib.Core.Bool.{Bool, true, false, cond}
+use mathlib.Core.Bool.{Bool, true, false, cond, true≢false}
 use mathlib.Core.List.{List, [], _∷_}
 use native.Mathlib.Omega.{arith}
 use native.Mathlib.Decide.{decLt}
@@ -11,7 +11,7 @@ use lib.Dec.{eqb}
 use lib.ListN.{length, getD, take, drop, length-drop, drop-of-length-le}
 use lib.Seq.{drop-drop, take-length, drop-cons}
 use borrow.Author.Count.{below-none, below-more}
-use Rattle.tables.specs.Count.{FirstStanding}
+use Rattle.sheet.specs.Found.{FirstFound}
 use Rattle.bytes.specs.Bytes.{indexOf, indexAfter, slice}
 use Rattle.lines.specs.declared.Line.{Line}
 use Rattle.lines.specs.Nine.{faulty, said}
@@ -153,8 +153,13 @@ module _ (text : List ℕ) (P : ℕ → Type 0) where
 
 -- the first line that passes a test, or none
 module _ (text : List ℕ) (test : ℕ → Bool) (count i at : ℕ) (T : PassedBy text (λ j. test j ≡ false) i at) where
-  pub stands-here : i < count → test i ≡ true → FirstStanding test count i
-  stands-here h e = record { most = omega arith; before = T .so-far; found = λ l. e }
+  pub stands-here : i < count → test i ≡ true → FirstFound test count (record { found = true; row = i })
+  stands-here h e = record { first = record { most = omega arith; before = T .so-far; found = λ l. e }; met = λ q. h; missed = λ q. absurd (true≢false q) }
 
-  pub stands-nowhere : count ≤ i → FirstStanding test count count
-  stands-nowhere h = record { most = omega arith; before = λ j l. T .so-far j (omega arith); found = λ l. absurd (omega arith) }
+  pub stands-nowhere : count ≤ i → FirstFound test count (record { found = false; row = count })
+  stands-nowhere h =
+      record {
+        first = record { most = omega arith; before = λ j l. T .so-far j (omega arith); found = λ l. absurd (omega arith) };
+        met = λ q. absurd (true≢false (sym q));
+        missed = λ q. refl;
+      }

@@ -21,7 +21,7 @@ use Rattle.sorting.specs.Sorted.{fourAt, fourOf}
 use Rattle.sorting.specs.declared.Four.{Four}
 use Rattle.listing.specs.LineByLine.{InOrder}
 use Rattle.lines.specs.Naming.{kindNamed, fromLine, toLine}
-use Rattle.listing.specs.Laying.{lineOfRow, lineIn, PlaceOfLine, nodeCells, CellsFor, RowWords, RowsLaid, SheetLaid}
+use Rattle.listing.specs.Laying.{lineOfRow, lineIn, PlaceOfLine, lineCells, CellsFor, RowWords, RowsLaid, SheetLaid}
 
 -- a row of the table, by its words
 pub row-line : (rows : List ℕ) (i : ℕ) (w : Four) → fourOf w ≡ fourAt rows i → record { fault = 0; form = w .first; first = w .second; second = w .third; third = w .fourth } ≡ lineOfRow rows i
@@ -38,8 +38,8 @@ row-room rows order o p h = omega (arith, o .sorted .inside p h, o .room)
 
 -- the words of a row, half by half
 module _ (half : Half) (rows order : List ℕ) (p : ℕ) (l : Line) (is : l ≡ lineIn rows order p) where
-  pub node-made : half ≡ Nodes → CellsFor half rows order (lineIn rows order p) (nodeCells l)
-  node-made e = rw e (ap nodeCells is)
+  pub node-made : half ≡ Nodes → CellsFor half rows order (lineIn rows order p) (lineCells l)
+  node-made e = rw e (ap lineCells is)
 
   pub edge-made : half ≡ Edges → (kind from to : ℕ) (a b : Line) → kind ≡ kindNamed l → a ≡ fromLine l → PlaceOfLine rows order a from → b ≡ toLine l → PlaceOfLine rows order b to
       → CellsFor half rows order (lineIn rows order p) (record { first = kind; second = from; third = to; offices = 1 })

@@ -36,7 +36,7 @@ use Rattle.sorting.specs.Sorted.{mostSorted, fourAt}
 use Rattle.sorting.proofs.Orders.{row-in-order, order-rises}
 use Rattle.listing.specs.Cut.{lineAt}
 use Rattle.listing.specs.Faults.{saysThis, nodeLines, edgeLines}
-use Rattle.listing.specs.Laying.{lineIn, keyIn, PlaceOfLine, nodeCells, EdgeCells, RowWords, firstEdge}
+use Rattle.listing.specs.Laying.{lineIn, keyIn, PlaceOfLine, lineCells, EdgeCells, RowWords, firstEdge}
 use Rattle.listing.specs.LineByLine.{Tabled}
 use Rattle.listing.specs.Meant.{someLine, Means}
 use Rattle.listing.proofs.Once.{both-ways, many-front}
@@ -153,7 +153,7 @@ module _ (ls : List Line) (F : Faultless ls) (rows order : List ℕ) (few : leng
         (p .0, subst (λ (y : Key). PlaceIs (keyIn rows order) (length order) y (p .0)) k (own-place (keyIn rows order) (length order) keys-rise (p .0) (omega (arith, p .1, long))))
 
     pub node-words-there : (words : List ℕ) × RowWords Nodes rows order 0 n words
-    node-words-there = row-words-there Nodes rows order 0 n (λ k h. (nodeCells (lineIn rows order (0 + k)), refl))
+    node-words-there = row-words-there Nodes rows order 0 n (λ k h. (lineCells (lineIn rows order (0 + k)), refl))
 
     pub edge-words-there : (words : List ℕ) × RowWords Edges rows order n (count - n) words
     edge-words-there = row-words-there Edges rows order n (count - n) cells
@@ -208,7 +208,7 @@ module _ (ls : List Line) (F : Faultless ls) (rows order : List ℕ) (few : leng
       node-is u h =
           let l = line-placed u (omega (arith, nodes-few)) in
           let z : 0 + u ≡ u = omega arith in
-          let c : cellsIn Nodes 1 wn u ≡ nodeCells (placed u) = WN .each u h ∙ ap (λ (p : ℕ). nodeCells (lineIn rows order p)) z ∙ ap nodeCells l in
+          let c : cellsIn Nodes 1 wn u ≡ lineCells (placed u) = WN .each u h ∙ ap (λ (p : ℕ). lineCells (lineIn rows order p)) z ∙ ap lineCells l in
           built-node 1 1 n e wn we (WN .long) (WE .long) u h ∙ ap (λ (x : Cells). record { class = x .first; number = x .second; variant = x .third; offices = x .offices }) c
 
       node-key : (u : ℕ) → u < n → nodeKeyAt t u ≡ identityNamed (placed u)

@@ -5,15 +5,14 @@ use mathlib.Core.Path.{_≡_, refl, sym, ap, subst, _∙_}
 use mathlib.Core.Bool.{Bool, true, false, not}
 use mathlib.Core.List.{List, [], _∷_, _++_}
 use native.Mathlib.Omega.{arith}
-use native.Mathlib.Decide.{decLt}
-use lib.Dec.{leb}
 use lib.ListN.{length, getD, take, length-append, List·getD-append}
 use lib.Seq.{sets, sets-eq, getD-append-add, getD-take, length-take-le}
 use borrow.Author.Count.{below-more}
-use borrow.Author.Tests.{le-leb, lt-leb}
-use Rattle.tables.specs.Count.{FirstStanding}
+use Rattle.tables.specs.Count.{someRow}
 use Rattle.tables.specs.Key.{sameKey}
 use Rattle.tables.proofs.Counts.{some-at, some-none, seek-known, seek-unknown}
+use Rattle.sheet.specs.declared.Place.{Place}
+use Rattle.sheet.specs.Found.{FirstFound}
 use Rattle.lines.specs.declared.Line.{Line}
 use Rattle.lines.specs.Naming.{isNodeLine, fromLine, toLine, lineKey, sameLine}
 use Rattle.sorting.specs.Sorted.{mostSorted, fourAt, fourOf}
@@ -64,54 +63,52 @@ module _ (ls : List Line) (rows : List ℕ) (i : ℕ) (l : Line) (room : 4 * i +
 -- ---- finding
 
 -- a test that is the same finds the same
-first-as : (f g : ℕ → Bool) (n r : ℕ) → ((j : ℕ) → j < n → f j ≡ g j) → FirstStanding f n r → FirstStanding g n r
-first-as f g n r e x =
-    let m = x .most in
-    record { most = m; before = λ i h. sym (e i (omega arith)) ∙ x .before i h; found = λ h. sym (e r h) ∙ x .found h }
+first-as : (f g : ℕ → Bool) (n : ℕ) (p : Place) → ((j : ℕ) → j < n → f j ≡ g j) → FirstFound f n p → FirstFound g n p
+first-as f g n p e x =
+    let y = x .first in
+    let m = y .most in
+    record {
+      first = record { most = m; before = λ i h. sym (e i (omega arith)) ∙ y .before i h; found = λ h. sym (e (p .row) h) ∙ y .found h };
+      met = x .met;
+      missed = x .missed;
+    }
 
 module _ (ls : List Line) (count : ℕ) (rows order : List ℕ) (T : Tabled ls count rows order) where
-  pub found-in-order : count ≤ mostSorted → (l : Line) (w : Four) (r : ℕ) → fourOf w ≡ lineKey l → FirstStanding (λ i. sameKey (fourAt rows i) (fourOf w)) (length order) r
-      → FirstStanding (λ j. sameLine (lineAt ls j) l) count r
-  found-in-order few l w r e x =
-      let y = subst (λ (n : ℕ). FirstStanding (λ i. sameKey (fourAt rows i) (fourOf w)) n r) (T .long few) x in
-      first-as _ _ count r (λ j h. (λ k. sameKey (T .filled few j h k) (e k))) y
+  pub found-in-order : count ≤ mostSorted → (l : Line) (w : Four) (p : Place) → fourOf w ≡ lineKey l → FirstFound (λ i. sameKey (fourAt rows i) (fourOf w)) (length order) p
+      → FirstFound (λ j. sameLine (lineAt ls j) l) count p
+  found-in-order few l w p e x =
+      let y = subst (λ (n : ℕ). FirstFound (λ i. sameKey (fourAt rows i) (fourOf w)) n p) (T .long few) x in
+      first-as _ _ count p (λ j h. (λ k. sameKey (T .filled few j h k) (e k))) y
 
-module _ (ls : List Line) (count i : ℕ) (h : i < count) (l : Line) (e : l ≡ lineAt ls i) (r : ℕ) (x : FirstStanding (λ j. sameLine (lineAt ls j) l) count r) where
+module _ (ls : List Line) (count i : ℕ) (h : i < count) (l : Line) (e : l ≡ lineAt ls i) (p : Place) (x : FirstFound (λ j. sameLine (lineAt ls j) l) count p) where
   -- an earlier line says the same, or none does
-  pub is-repeated : r < i → saysThis ls i (lineAt ls i) ≡ true
+  pub is-repeated : p .row < i → saysThis ls i (lineAt ls i) ≡ true
   unfolding saysThis
-  is-repeated g = rw (← e) (some-at _ i r g (x .found (omega arith)))
+  is-repeated g = rw (← e) (some-at _ i (p .row) g (x .first .found (omega arith)))
 
-  pub not-repeated : i ≤ r → saysThis ls i (lineAt ls i) ≡ false
+  pub not-repeated : i ≤ p .row → saysThis ls i (lineAt ls i) ≡ false
   unfolding saysThis
-  not-repeated g = rw (← e) (some-none _ i (λ j d. x .before j (omega arith)))
+  not-repeated g = rw (← e) (some-none _ i (λ j d. x .first .before j (omega arith)))
 
--- whether a line is there
-module _ (ls : List Line) (count : ℕ) (l : Line) (r : ℕ) (x : FirstStanding (λ j. sameLine (lineAt ls j) l) count r) where
-  pub says-it : r < count → saysThis ls count l ≡ true
+-- a search finds a line exactly if it is there
+module _ (ls : List Line) (count : ℕ) (l : Line) (p : Place) (x : FirstFound (λ j. sameLine (lineAt ls j) l) count p) where
+  pub says-told : p .found ≡ saysThis ls count l
   unfolding saysThis
-  says-it h = seek-known _ count r x h
-
-  pub says-it-not : count ≤ r → saysThis ls count l ≡ false
-  unfolding saysThis
-  says-it-not h = seek-unknown _ count r x h
-
-  pub says-told : leb count r ≡ not (saysThis ls count l)
-  says-told = go (decLt r count)
+  says-told = go (p .found) refl
     where
-      go : Dec (r < count) → leb count r ≡ not (saysThis ls count l)
-      go (yes h) = lt-leb count r h ∙ sym (ap not (says-it h))
-      go (no h) = le-leb count r (omega arith) ∙ sym (ap not (says-it-not (omega arith)))
+      go : (b : Bool) → p .found ≡ b → b ≡ someRow (λ j. sameLine (lineAt ls j) l) count
+      go true e = sym (seek-known _ count (p .row) (x .first) (x .met e))
+      go false e = sym (seek-unknown _ count (p .row) (x .first) (omega (arith, x .missed e)))
 
 module _ (ls : List Line) (count : ℕ) (l : Line) where
   pub lacks-none : isNodeLine l ≡ true → false ≡ lacksEnd ls count l
   lacks-none e = rw e refl
 
-  module _ (edge : isNodeLine l ≡ false) (from : Line) (f : from ≡ fromLine l) (r : ℕ) (x : FirstStanding (λ j. sameLine (lineAt ls j) from) count r) where
-    pub lacks-from : count ≤ r → true ≡ lacksEnd ls count l
-    lacks-from h = let s = ap (saysThis ls count) (sym f) ∙ says-it-not ls count from r x h in rw (edge, s) refl
+  module _ (edge : isNodeLine l ≡ false) (from : Line) (f : from ≡ fromLine l) (p : Place) (x : FirstFound (λ j. sameLine (lineAt ls j) from) count p) where
+    pub lacks-from : p .found ≡ false → true ≡ lacksEnd ls count l
+    lacks-from h = let s = ap (saysThis ls count) (sym f) ∙ sym (says-told ls count from p x) ∙ h in rw (edge, s) refl
 
-    pub lacks-to : r < count → (to : Line) → to ≡ toLine l → (q : ℕ) → FirstStanding (λ j. sameLine (lineAt ls j) to) count q → leb count q ≡ lacksEnd ls count l
+    pub lacks-to : p .found ≡ true → (to : Line) → to ≡ toLine l → (q : Place) → FirstFound (λ j. sameLine (lineAt ls j) to) count q → not (q .found) ≡ lacksEnd ls count l
     lacks-to h to g q y =
-        let s = ap (saysThis ls count) (sym f) ∙ says-it ls count from r x h in
-        says-told ls count to q y ∙ ap (λ (z : Line). not (saysThis ls count z)) g ∙ rw (edge, s) refl
+        let s = ap (saysThis ls count) (sym f) ∙ sym (says-told ls count from p x) ∙ h in
+        ap not (says-told ls count to q y) ∙ ap (λ (z : Line). not (saysThis ls count z)) g ∙ rw (edge, s) refl

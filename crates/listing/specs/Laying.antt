@@ -35,8 +35,8 @@ abbrev pub PlaceOfLine : List ℕ → List ℕ → Line → ℕ → Type 0
 PlaceOfLine rows order l r = PlaceIs (keyIn rows order) (length order) (lineKey l) r
 
 -- the words of a node row that a line makes
-abbrev pub nodeCells : Line → Cells
-nodeCells l = record { first = l .form; second = l .first; third = l .second; offices = 1 }
+abbrev pub lineCells : Line → Cells
+lineCells l = record { first = l .form; second = l .first; third = l .second; offices = 1 }
 
 -- the words of an edge row that a line makes: its ends by their places
 pub record EdgeCells (rows order : List ℕ) (l : Line) (c : Cells) : Type 0 where
@@ -47,7 +47,7 @@ pub record EdgeCells (rows order : List ℕ) (l : Line) (c : Cells) : Type 0 whe
 
 -- of either half
 abbrev pub CellsFor : Half → List ℕ → List ℕ → Line → Cells → Type 0
-CellsFor Nodes rows order l c = c ≡ nodeCells l
+CellsFor Nodes rows order l c = c ≡ lineCells l
 CellsFor Edges rows order l c = EdgeCells rows order l c
 
 -- the words of the rows that lines from a place on make

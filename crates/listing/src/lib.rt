@@ -4,13 +4,14 @@ mod writing;
 use lines::Line;
 use sheet::Cells;
 use sheet::Half;
+use sheet::Place;
 use sorting::Four;
 pub use writing::write_listing;
 ghost use mathlib.Core.Path.{_≡_};
 ghost use Prim.Native.Nat.{_+_, _-_, _*_, _<_, _≤_};
 ghost use lib.ListN.{length};
 ghost use lib.Seq.{sets};
-ghost use Rattle.tables.specs.Count.{FirstStanding};
+ghost use Rattle.sheet.specs.Found.{FirstFound};
 ghost use Rattle.sheet.specs.Limits.{maxNodes, maxEdges, sheetWords};
 ghost use Rattle.sheet.specs.Rows.{rowPlace};
 ghost use Rattle.lines.specs.Naming.{lineKey, sameLine};
@@ -141,28 +142,34 @@ fn fill_table(text: &[u8], count: usize, rows: &mut [u32])
     }
 }
 
-// The first of the first lines that says this; their number where none does. This looks at every line, for a text of too many.
-fn seek_line(text: &[u8], count: usize, l: Line) -> usize
+// The place of the first of the first lines that says this. This looks at every line, for a text of too many.
+fn seek_line(text: &[u8], count: usize, l: Line) -> Place
     requires { ⌜ count ≤ length (linesSaid (now text)) ⌝ }
-    ensures { λ r. ⌜ FirstStanding (λ j. sameLine (lineAt (linesSaid (now (text .entry))) j) l) count r ⌝ }
+    ensures { λ r. ⌜ FirstFound (λ j. sameLine (lineAt (linesSaid (now (text .entry))) j) l) count r ⌝ }
 {
     let mut i: usize = 0;
     let mut at: usize = 0;
     while i < count {
         let t = take_line(text, at);
         if lines::same_line(t.line, l) {
-            return i;
+            return Place {
+                found: true,
+                row: i,
+            };
         }
         at = t.next;
         i += 1;
     }
-    count
+    Place {
+        found: false,
+        row: count,
+    }
 }
 
 // The same by the order of the lines, where they are few enough to be sorted.
-fn line_with<'a>(text: &[u8], count: usize, rows: &'a [u32], order: &'a [u32], l: Line) -> usize
+fn line_with<'a>(text: &[u8], count: usize, rows: &'a [u32], order: &'a [u32], l: Line) -> Place
     requires { ⌜ Tabled (linesSaid (now text)) count (now rows) (now order) ⌝ }
-    ensures { λ r. ⌜ FirstStanding (λ j. sameLine (lineAt (linesSaid (now (text .entry))) j) l) count r ⌝ }
+    ensures { λ r. ⌜ FirstFound (λ j. sameLine (lineAt (linesSaid (now (text .entry))) j) l) count r ⌝ }
 {
     if sorting::MOST < count {
         return seek_line(text, count, l);
@@ -170,22 +177,29 @@ fn line_with<'a>(text: &[u8], count: usize, rows: &'a [u32], order: &'a [u32], l
     sorting::first_of(rows, order, four_of(l))
 }
 
-// The first line that repeats an earlier one; the number of lines where none does.
-fn first_repeated<'a>(text: &[u8], count: usize, rows: &'a [u32], order: &'a [u32]) -> usize
+// The place of the first line that repeats an earlier one.
+fn first_repeated<'a>(text: &[u8], count: usize, rows: &'a [u32], order: &'a [u32]) -> Place
     requires { ⌜ Tabled (linesSaid (now text)) count (now rows) (now order) ⌝ }
-    ensures { λ r. ⌜ FirstStanding (λ i. saysThis (linesSaid (now (text .entry))) i (lineAt (linesSaid (now (text .entry))) i)) count r ⌝ }
+    ensures { λ r. ⌜ FirstFound (λ i. saysThis (linesSaid (now (text .entry))) i (lineAt (linesSaid (now (text .entry))) i)) count r ⌝ }
 {
     let mut i: usize = 0;
     let mut at: usize = 0;
     while i < count {
         let t = take_line(text, at);
-        if line_with(text, count, rows, order, t.line) < i {
-            return i;
+        let p = line_with(text, count, rows, order, t.line);
+        if p.row < i {
+            return Place {
+                found: true,
+                row: i,
+            };
         }
         at = t.next;
         i += 1;
     }
-    count
+    Place {
+        found: false,
+        row: count,
+    }
 }
 
 // Whether an end of a line has no node line.
@@ -196,28 +210,36 @@ fn lacks_end<'a>(text: &[u8], count: usize, rows: &'a [u32], order: &'a [u32], l
     if lines::is_node_line(l) {
         return false;
     }
-    if count <= line_with(text, count, rows, order, lines::from_line(l)) {
+    let from = line_with(text, count, rows, order, lines::from_line(l));
+    if !from.found {
         return true;
     }
-    count <= line_with(text, count, rows, order, lines::to_line(l))
+    let to = line_with(text, count, rows, order, lines::to_line(l));
+    !to.found
 }
 
-// The first line an end of which has no node line; the number of lines where every end has one.
-fn first_lacking<'a>(text: &[u8], count: usize, rows: &'a [u32], order: &'a [u32]) -> usize
+// The place of the first line an end of which has no node line.
+fn first_lacking<'a>(text: &[u8], count: usize, rows: &'a [u32], order: &'a [u32]) -> Place
     requires { ⌜ Tabled (linesSaid (now text)) count (now rows) (now order) ⌝ }
-    ensures { λ r. ⌜ FirstStanding (λ i. lacksEnd (linesSaid (now (text .entry))) count (lineAt (linesSaid (now (text .entry))) i)) count r ⌝ }
+    ensures { λ r. ⌜ FirstFound (λ i. lacksEnd (linesSaid (now (text .entry))) count (lineAt (linesSaid (now (text .entry))) i)) count r ⌝ }
 {
     let mut i: usize = 0;
     let mut at: usize = 0;
     while i < count {
         let t = take_line(text, at);
         if lacks_end(text, count, rows, order, t.line) {
-            return i;
+            return Place {
+                found: true,
+                row: i,
+            };
         }
         at = t.next;
         i += 1;
     }
-    count
+    Place {
+        found: false,
+        row: count,
+    }
 }
 
 // The line at a place in the order.
@@ -240,7 +262,7 @@ fn row_of<'a>(rows: &'a [u32], order: &'a [u32], l: Line) -> u32
     requires { ⌜ InOrder (now rows) (now order) ⌝ }
     ensures { λ r. ⌜ PlaceOfLine (now (rows .entry)) (now (order .entry)) l r ⌝ }
 {
-    sorting::place_of(rows, order, four_of(l)) as u32
+    sorting::place_in_order(rows, order, four_of(l)) as u32
 }
 
 // The words of the row that the line at a place makes.
@@ -341,7 +363,7 @@ fn read_good<'a>(count: usize, rows: &'a [u32], order: &'a [u32], out: &mut [u32
     if sorting::MOST < count {
         return refused_at(4, 0);
     }
-    let n = sorting::place_of(rows, order, first_edge());
+    let n = sorting::place_in_order(rows, order, first_edge());
     let e = count - n;
     if (sheet::MAX_NODES as usize) < n {
         return refused_at(4, 0);
@@ -375,15 +397,15 @@ fn read_sorted<'a>(
 {
     let count = first.count;
     let repeated = first_repeated(text, count, rows, order);
-    if repeated < count {
-        return refused_at(42, repeated);
+    if repeated.found {
+        return refused_at(42, repeated.row);
     }
     if first.fault != 0 {
         return refused_at(first.fault, count);
     }
     let lacking = first_lacking(text, count, rows, order);
-    if lacking < count {
-        return refused_at(43, lacking);
+    if lacking.found {
+        return refused_at(43, lacking.row);
     }
     read_good(count, rows, order, out)
 }

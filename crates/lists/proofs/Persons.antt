@@ -8,10 +8,9 @@ use mathlib.Core.List.{List}
 use mathlib.Core.Logic.{_⊎_, inl, inr, ⊎-elim}
 use lib.ListN.{length, getD, set}
 use lib.Seq.{getD-set-same, getD-set-other}
-use borrow.Author.Tests.{ltb-true}
-use Rattle.tables.specs.Count.{FirstStanding}
 use Rattle.tables.specs.Key.{identity}
 use Rattle.sheet.specs.declared.Header.{Header}
+use Rattle.sheet.specs.declared.Place.{Place}
 use Rattle.sheet.specs.declared.Seat.{Seat}
 use Rattle.sheet.specs.Rows.{headerOf, nodeKeyAt}
 use Rattle.sheet.specs.Accepted.{WellFormed}
@@ -23,12 +22,13 @@ use Rattle.meaning.specs.Forms.{Rising}
 use Rattle.meaning.specs.Questions.{InCategory, PersonsInCategoryAre, PersonsWithGrantAre}
 use Rattle.meaning.proofs.Axioms.{a1-a2}
 use Rattle.walk.specs.declared.Walk.{Walk}
-use Rattle.question.specs.Asked.{stands, known}
+use Rattle.question.specs.Asked.{stands, SoughtAt, known}
 use Rattle.tables.proofs.Counts.{some-row}
 use Rattle.question.specs.Checked.{AtSeat}
 use Rattle.ask.proofs.Links.{walkFor}
 use Rattle.sheet.proofs.Forming.{words-of}
 use Rattle.question.proofs.Known.{found-class}
+use Rattle.reach.specs.declared.FoundWords.{FoundWords}
 use Rattle.reach.specs.Finds.{Finds}
 use Rattle.reach.specs.Reaching.{Tells, LeadsTo}
 use Rattle.lists.specs.Picked.{PersonLeads, PersonsReach, wanted, PickedNumber}
@@ -72,7 +72,7 @@ module _ (s t : List ℕ) (h : Header) (w : Walk) (to : ℕ) (m : List ℕ) (r :
       }
 
   -- the rows that were picked by the numbers are those that the walk leads from
-  pub led-found : {list : List ℕ} {n : ℕ} → Finds (Rising (PickedNumber s (h .nodes) office 1 true m)) list n → Finds (Rising (PersonLeads s t h office w to)) list n
+  pub led-found : {list : List ℕ} {w′ : FoundWords} → Finds (Rising (PickedNumber s (h .nodes) office 1 true m)) list w′ → Finds (Rising (PersonLeads s t h office w to)) list w′
   led-found x = finds-map (λ ws. rising-map led picked) (λ ws. rising-map picked led) x
 
 -- no known number is 0
@@ -84,14 +84,14 @@ known-some s t h f office c n e z =
     f .nodes .fit (r .0) l .number (found-class s false office c n (r .0) (r .2) .1 ∙ z)
 
 -- the row that a search found
-module _ (s t : List ℕ) (h : Header) (f : WellFormed s t h) (office c n to : ℕ) (e : known s false office c n ≡ true) (x : FirstStanding (stands s false office c n) (h .nodes) to) where
-  pub found-in : to < h .nodes
-  found-in = ltb-true to (h .nodes) (known-by s h office c n to (f .head) x ∙ e)
+module _ (s t : List ℕ) (h : Header) (f : WellFormed s t h) (office c n : ℕ) (p : Place) (e : known s false office c n ≡ true) (x : SoughtAt s false office c n (h .nodes) p) where
+  pub found-in : p .row < h .nodes
+  found-in = x .first (known-by s h office c n p (f .head) x ∙ e) .0
 
-  pub found-key : (c ≡ 3 → ⊥) → nodeKeyAt s to ≡ identity c n 0
+  pub found-key : (c ≡ 3 → ⊥) → nodeKeyAt s (p .row) ≡ identity c n 0
   found-key z =
-      let a = found-class s false office c n to (x .found found-in) in
-      plain-row s t h f to c found-in (a .0) z ∙ ap (λ (y : ℕ). identity c y 0) (a .1)
+      let a = found-class s false office c n (p .row) (x .first (known-by s h office c n p (f .head) x ∙ e) .1 .found found-in) in
+      plain-row s t h f (p .row) c found-in (a .0) z ∙ ap (λ (y : ℕ). identity c y 0) (a .1)
 
 module _ (s t : List ℕ) (h : Header) (seat : Seat) (at : AtSeat s t h seat) (d to : ℕ) (inside : to < h .nodes) where
   abbrev f : WellFormed s t h
@@ -116,7 +116,7 @@ module _ (s t : List ℕ) (h : Header) (seat : Seat) (at : AtSeat s t h seat) (d
         let r = seen-row s t h f (seat .office) 1 p 0 (ends-seen s (words-of s t h f) (seat .office) 1 1 p 0 2 (i .directly) 0 (i .member-of) .0) in
         leading p r (category-leads s t h f seat d (r .row) to p c (r .inside) (r .names) inside is-category i)
 
-    pub persons-found : {list : List ℕ} {n : ℕ} → Finds (Rising (PersonLeads s t h (seat .office) w to)) list n → Finds (PersonsInCategoryAre (seenFrom s seat) c) list n
+    pub persons-found : {list : List ℕ} {w′ : FoundWords} → Finds (Rising (PersonLeads s t h (seat .office) w to)) list w′ → Finds (PersonsInCategoryAre (seenFrom s seat) c) list w′
     persons-found x = finds-map (λ ws. rising-map into out) (λ ws. rising-map out into) x
 
   module _ (n : ℕ) (is-folio : nodeKeyAt s to ≡ folio n) (some : d ≡ 0 → ⊥) where
@@ -131,5 +131,5 @@ module _ (s t : List ℕ) (h : Header) (seat : Seat) (at : AtSeat s t h seat) (d
         let r = seen-row s t h f (seat .office) 1 p 0 (ends-seen s (words-of s t h f) (seat .office) 1 1 p 0 2 (a .c) 0 (a .assigned) .0) in
         leading p r (folio-leads s t h f seat grant d (r .row) to p d n (r .inside) (r .names) inside is-folio (λ z. refl) i)
 
-    pub holders-found : {list : List ℕ} {m : ℕ} → Finds (Rising (PersonLeads s t h (seat .office) w to)) list m → Finds (PersonsWithGrantAre (seenFrom s seat) d n) list m
+    pub holders-found : {list : List ℕ} {w′ : FoundWords} → Finds (Rising (PersonLeads s t h (seat .office) w to)) list w′ → Finds (PersonsWithGrantAre (seenFrom s seat) d n) list w′
     holders-found x = finds-map (λ ws. rising-map holds held) (λ ws. rising-map held holds) x

@@ -2,24 +2,24 @@
 -- Assumes nothing.
 use Prim.Native.Nat.{ℕ, zero, suc, _≤_}
 use native.Mathlib.Omega.{arith}
-use mathlib.Core.Path.{_≡_, refl, sym, subst, _∙_}
+use mathlib.Core.Path.{_≡_, refl, sym, ap, subst, _∙_}
 use mathlib.Core.Bool.{Bool, true, false, not, _&&_, true≢false}
 use mathlib.Core.List.{List}
-use lib.Dec.{eqb, ltb}
+use lib.Dec.{eqb}
 use lib.ListN.{getD}
 use borrow.Author.Tests.{eqb-true, eq-eqb}
-use Rattle.tables.proofs.Counts.{found-known}
-use Rattle.tables.specs.Count.{FirstStanding}
+use Rattle.tables.specs.Count.{someRow}
 use Rattle.tables.specs.Marks.{marked}
 use Rattle.sheet.specs.declared.Header.{Header}
 use Rattle.sheet.specs.declared.Node.{Node}
+use Rattle.sheet.specs.declared.Place.{Place}
 use Rattle.sheet.specs.declared.Seat.{Seat}
 use Rattle.sheet.specs.Refusals.{_when_otherwise_, _orElse_}
 use Rattle.sheet.specs.Rows.{headerOf, nodeAt}
 use Rattle.paths.proofs.Tests.{and-left, and-right, both}
 use Rattle.meaning.specs.Forms.{Rising}
 use Rattle.question.specs.declared.Question.{Question}
-use Rattle.question.specs.Asked.{seatFor, stands, known, badOffice}
+use Rattle.question.specs.Asked.{seatFor, stands, SoughtAt, known, badOffice}
 use Rattle.lists.specs.Picked.{wanted, Picked, PickedNumber}
 use Rattle.lists.specs.Sought.{unknownCategory, unknownRight, badPair, soughtFault}
 use Rattle.reach.proofs.Collecting.{Collected, collected-all}
@@ -52,9 +52,9 @@ picked-all s i n office class some d out l m c =
 
 -- ---- what is refused
 
-pub known-by : (s : List ℕ) (h : Header) (office class number r : ℕ) → h ≡ headerOf s → FirstStanding (stands s false office class number) (h .nodes) r → ltb r (h .nodes) ≡ known s false office class number
+pub known-by : (s : List ℕ) (h : Header) (office class number : ℕ) (p : Place) → h ≡ headerOf s → SoughtAt s false office class number (h .nodes) p → p .found ≡ known s false office class number
 unfolding known
-known-by s h office class number r e x = rw e (found-known _ _ r (subst (λ (y : Header). FirstStanding (stands s false office class number) (y .nodes) r) e x))
+known-by s h office class number p e x = x .told ∙ ap (λ (y : Header). someRow (stands s false office class number) (y .nodes)) e
 
 pub fault-after : (number : ℕ) (s : List ℕ) (q : Question) (h : Header) → h ≡ headerOf s → badOffice h (q .office) ≡ 0
     → soughtFault number s q ≡ (unknownCategory s q when eqb number 5 otherwise unknownRight s q when eqb number 6 otherwise badPair s q when eqb number 9 otherwise 0)

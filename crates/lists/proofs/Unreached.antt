@@ -25,6 +25,7 @@ use Rattle.walk.specs.declared.Walk.{Walk}
 use Rattle.question.specs.Checked.{AtSeat}
 use Rattle.ask.proofs.Links.{walkFor}
 use Rattle.sheet.proofs.Forming.{words-of}
+use Rattle.reach.specs.declared.FoundWords.{FoundWords}
 use Rattle.reach.specs.Finds.{Finds}
 use Rattle.lists.specs.Picked.{FromPersons, PersonsLead, wanted, PickedNumber}
 use Rattle.reach.proofs.Collecting.{rising-map, finds-map}
@@ -85,5 +86,5 @@ module _ (s t : List ℕ) (h : Header) (seat : Seat) (at : AtSeat s t h seat) (d
               let q = leads-path (m .row) n (m .names) (r .each (m .row) (m .inside) .yes (λ z. let e = v .1 in omega arith)) in
               absurd (u .1 (q .0) (q .1) (q .2))
 
-  pub unreached-found : {list : List ℕ} {n : ℕ} → Finds (Rising (PickedNumber s (h .nodes) (seat .office) 4 false d)) list n → Finds (FoliosOutOfReachAre g) list n
+  pub unreached-found : {list : List ℕ} {w′ : FoundWords} → Finds (Rising (PickedNumber s (h .nodes) (seat .office) 4 false d)) list w′ → Finds (FoliosOutOfReachAre g) list w′
   unreached-found x = finds-map (λ ws. rising-map into out) (λ ws. rising-map out into) x

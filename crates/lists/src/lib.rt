@@ -1,6 +1,7 @@
 // Questions 5 to 10: the persons in a category, the holders of a right, the folios out of reach, the least triple that is Both, the least pair, and the redundant rows.
 use question::Answer;
 use question::Question;
+use reach::FoundWords;
 use sheet::CATEGORY;
 use sheet::DEED;
 use sheet::FOLIO;
@@ -29,7 +30,7 @@ ghost use Rattle.meaning.specs.Questions.{PersonsInCategoryAre, PersonsWithGran
 ghost use Rattle.question.specs.Asked.{seatFor, known, badOffice, plain, afterSheet};
 ghost use Rattle.question.specs.Checked.{AtSeat};
 ghost use Rattle.question.specs.Replies.{Shows};
-ghost use Rattle.reach.specs.Finds.{noneFound, Finds};
+ghost use Rattle.reach.specs.Finds.{Finds};
 ghost use Rattle.lists.specs.Handed.{Handed};
 ghost use Rattle.lists.specs.Sought.{unknownCategory, unknownRight, badPair, soughtFault, soughtIs};
 ghost use Rattle.lists.specs.Promises.{ListsPersonsInCategory, ListsPersonsWithGrant, ListsFoliosOutOfReach, ShowsLeastTriple, ShowsLeastHolder, ListsRedundantEdges};
@@ -71,7 +72,7 @@ fn numbers_of(
     reached: bool,
     d: [u32; ROWS],
     list: &mut [u32],
-) -> u32
+) -> FoundWords
     requires { ⌜ NodesFormed (now sheet) h × Seated seat × (class ≡ deedType → ⊥) × (length d ≡ maxNodes) × (length (now list) ≡ mostEdges) ⌝ }
     ensures { λ r. ⌜ Finds (Rising (PickedNumber (now (sheet .entry)) (h .nodes) (seat .office) class reached d)) (now (list .exit)) r ⌝ }
 {
@@ -85,7 +86,10 @@ fn numbers_of(
         n = reach::put(list, n, good, r.number);
         i += 1;
     }
-    n
+    FoundWords {
+        found: true,
+        count: n,
+    }
 }
 
 // Whether the walk leads from a person's row to a row: 0 no, any other yes.
@@ -142,7 +146,7 @@ fn persons_to(
     deed: u32,
     to: u32,
     list: &mut [u32],
-) -> u32
+) -> FoundWords
     requires { ⌜ AtSeat (now sheet) (now edges) h seat × (to < h .nodes) × (length (now list) ≡ mostEdges) ⌝ }
     ensures { λ r. ⌜ Finds (Rising (PersonLeads (now (sheet .entry)) (now (edges .entry)) h (seat .office) (walkOf seat 3 deed) to)) (now (list .exit)) r ⌝ }
 {
@@ -161,12 +165,12 @@ fn persons_in_category_at(
     seat: Seat,
     q: Question,
     list: &mut [u32],
-) -> u32
+) -> FoundWords
     requires { ⌜ AtSeat (now sheet) (now edges) h seat × (known (now sheet) false (seat .office) 2 (q .category) ≡ true) × (length (now list) ≡ mostEdges) ⌝ }
     ensures { λ r. ⌜ Finds (PersonsInCategoryAre (seenFrom (now (sheet .entry)) seat) (q .category)) (now (list .exit)) r ⌝ }
 {
     let to = question::seek(sheet, h, false, seat, CATEGORY, q.category);
-    persons_to(sheet, edges, h, seat, 0, to, list)
+    persons_to(sheet, edges, h, seat, 0, to.row as u32, list)
 }
 
 // Question 6 from the seat: the persons with a grant path for a deed and a folio that its office knows.
@@ -177,12 +181,12 @@ fn persons_with_grant_at(
     seat: Seat,
     q: Question,
     list: &mut [u32],
-) -> u32
+) -> FoundWords
     requires { ⌜ AtSeat (now sheet) (now edges) h seat × (known (now sheet) false (seat .office) 3 (q .deed) ≡ true) × (known (now sheet) false (seat .office) 4 (q .folio) ≡ true) × (length (now list) ≡ mostEdges) ⌝ }
     ensures { λ r. ⌜ Finds (PersonsWithGrantAre (seenFrom (now (sheet .entry)) seat) (q .deed) (q .folio)) (now (list .exit)) r ⌝ }
 {
     let to = question::seek(sheet, h, false, seat, FOLIO, q.folio);
-    persons_to(sheet, edges, h, seat, q.deed, to, list)
+    persons_to(sheet, edges, h, seat, q.deed, to.row as u32, list)
 }
 
 // 1 at a person's row, 0 at any other.
@@ -229,7 +233,7 @@ fn folios_out_of_reach_at(
     h: Header,
     seat: Seat,
     list: &mut [u32],
-) -> u32
+) -> FoundWords
     requires { ⌜ AtSeat (now sheet) (now edges) h seat × (length (now list) ≡ mostEdges) ⌝ }
     ensures { λ r. ⌜ Finds (FoliosOutOfReachAre (seenFrom (now (sheet .entry)) seat)) (now (list .exit)) r ⌝ }
 {
@@ -243,7 +247,8 @@ fn is_known(sheet: &[u32], h: Header, seat: Seat, class: u32, number: u32) -> bo
     requires { ⌜ NodesFormed (now sheet) h × (h ≡ headerOf (now sheet)) × Seated seat ⌝ }
     ensures { λ r. ⌜ r ≡ known (now (sheet .entry)) false (seat .office) class number ⌝ }
 {
-    question::seek(sheet, h, false, seat, class, number) < h.nodes
+    let p = question::seek(sheet, h, false, seat, class, number);
+    p.found
 }
 
 // A line of the table: its fault where the seat's office does not know a type and number, else what the lines after it say.
@@ -331,19 +336,19 @@ fn copy(list: &[u32], n: usize, out: &mut [u32])
 }
 
 // Hands over what was found: 26 where nothing was, 25 where the output is shorter.
-fn hand_over(list: &[u32], n: u32, out: &mut [u32]) -> Answer
-    requires { ⌜ ((n ≡ noneFound → ⊥) → n ≤ length (now list)) ⌝ }
-    ensures { λ a. ⌜ Handed (now (list .entry)) n (now (out .entry)) a (now (out .exit)) ⌝ }
+fn hand_over(list: &[u32], w: FoundWords, out: &mut [u32]) -> Answer
+    requires { ⌜ (w .found ≡ true → w .count ≤ length (now list)) ⌝ }
+    ensures { λ a. ⌜ Handed (now (list .entry)) w (now (out .entry)) a (now (out .exit)) ⌝ }
 {
-    if n == reach::NONE {
+    if !w.found {
         return question::refused_by(26);
     }
-    let size = n as usize;
+    let size = w.count as usize;
     if out.len() < size {
         return question::refused_by(25);
     }
     copy(list, size, out);
-    question::told(0, n)
+    question::told(0, w.count)
 }
 
 // What question 5, 6 and so on to 10 finds from the seat, by the question's number, where nothing is refused.
@@ -355,7 +360,7 @@ fn found(
     seat: Seat,
     q: Question,
     list: &mut [u32],
-) -> u32
+) -> FoundWords
     requires { ⌜ AtSeat (now sheet) (now edges) h seat × (seat ≡ seatFor q) × (soughtFault number (now sheet) q ≡ 0) × (length (now list) ≡ mostEdges) ⌝ }
     ensures { λ r. ⌜ Finds (soughtIs number (now (sheet .entry)) q) (now (list .exit)) r ⌝ }
 {
@@ -391,8 +396,8 @@ fn sought_at(
     ensures { λ a. ⌜ Shows none (soughtIs number (now (sheet .entry)) q) (now (out .entry)) a (now (out .exit)) ⌝ }
 {
     let mut list = [0u32; LIST];
-    let n = found(number, sheet, edges, h, seat, q, &mut list);
-    hand_over(&list, n, out)
+    let w = found(number, sheet, edges, h, seat, q, &mut list);
+    hand_over(&list, w, out)
 }
 
 // A question on a sheet that was checked.

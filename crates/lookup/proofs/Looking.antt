@@ -1,81 +1,65 @@
 -- What a search for an identity tells of a sheet: that it has the identity, where its row stands, and what a lookup gives.
 -- Assumes nothing.
-use Prim.Native.Nat.{ℕ, _+_, _*_, _-_, _/_, _<_, _≤_}
+use Prim.Native.Nat.{ℕ, _+_, _*_, _-_, _<_, _≤_}
 use native.Mathlib.Omega.{arith}
-use native.Mathlib.Decide.{decLt}
 use mathlib.Core.Path.{_≡_, refl, sym, ap, ap₂, subst, _∙_}
-use mathlib.Core.Bool.{Bool, true, false, not, _||_, true≢false}
+use mathlib.Core.Bool.{Bool, true, false, not, _||_}
 use mathlib.Core.List.{List}
 use lib.ListN.{length, take, drop, length-take}
 use Rattle.tables.specs.Key.{Key}
-use Rattle.tables.proofs.Counts.{has-row, has-not}
+use Rattle.tables.proofs.Counts.{has-row}
 use Rattle.sheet.specs.declared.Refusal.{Refusal}
 use Rattle.sheet.specs.declared.Header.{Header}
-use Rattle.sheet.specs.declared.Found.the-variants.{At, Nowhere}
-use Rattle.sheet.specs.declared.Found.{Found}
-use Rattle.sheet.specs.Limits.{nodeWords, edgesFrom}
+use Rattle.sheet.specs.declared.Place.{Place}
+use Rattle.sheet.specs.Limits.{nodeWords, edgesFrom, maxNodes}
 use Rattle.sheet.specs.Parts.{Part, stretch}
 use Rattle.sheet.specs.Refusals.{_when_otherwise_, none, refuse}
 use Rattle.sheet.specs.Rows.{headerOf, nodeKeyAt}
 use Rattle.sheet.specs.Verdict.{verdict}
 use Rattle.sheet.specs.Accepted.{Accepted}
-use Rattle.sheet.specs.Found.{FoundIs, stands, missing}
+use Rattle.sheet.specs.Found.{FoundIs}
 use Rattle.sheet.proofs.Refusing.{refuse-plain, then-some-is, then-none-is, then-good}
 use Rattle.sheet.proofs.Accepting.{accepted}
+use Rattle.sheet.proofs.Places.{found-there}
 use Rattle.question.specs.declared.Answer.{Answer}
 use Rattle.question.specs.Replies.{refusedBy, tells, Replies}
 use Rattle.question.proofs.Telling.{refuses}
-use Rattle.lookup.specs.Looked.{hasIdentity, neither, lookFault, LooksUp, refused, in-first, in-second, StandsIn, of-first, of-second, PlacesIdentity, StandsAt, at-row, nowhere}
-
--- ---- where a row stands
-
-pub found-row : (s : List ℕ) (h : Header) (k : Key) (x : Found) (i : ℕ) → h ≡ headerOf s → FoundIs (nodeKeyAt s) (h .nodes) k x → x ≡ At i → (i < h .nodes) × StandsAt s k (edgesFrom i)
-found-row s h k x i e f q = go (subst (FoundIs (nodeKeyAt s) (h .nodes) k) q f)
-  where
-    go : FoundIs (nodeKeyAt s) (h .nodes) k (At i) → (i < h .nodes) × StandsAt s k (edgesFrom i)
-    go (stands j l z) = (l, at-row i (subst (λ (y : Header). i < y .nodes) e l) z)
-
-pub found-nowhere : (s : List ℕ) (h : Header) (k : Key) (x : Found) → h ≡ headerOf s → FoundIs (nodeKeyAt s) (h .nodes) k x → x ≡ Nowhere → StandsAt s k (length s)
-found-nowhere s h k x e f q = go (subst (FoundIs (nodeKeyAt s) (h .nodes) k) q f)
-  where
-    go : FoundIs (nodeKeyAt s) (h .nodes) k Nowhere → StandsAt s k (length s)
-    go (missing n) = nowhere (λ i l z. n i (subst (λ (y : Header). i < y .nodes) (sym e) l) z)
+use Rattle.lookup.specs.Looked.{hasIdentity, neither, lookFault, LooksUp, refused, in-first, in-second, StandsIn, of-first, of-second, PlacesIdentity}
 
 -- ---- whether a sheet has the identity
 
 -- a row that stands: its words are there
-pub record StandingRow (s : List ℕ) (k : Key) (r : ℕ) : Type 0 where
-  pub row : ℕ
+pub record StandingRow (s : List ℕ) (k : Key) (row : ℕ) : Type 0 where
   pub inside : row < headerOf s .nodes
   pub names : nodeKeyAt s row ≡ k
-  pub place : r ≡ edgesFrom row
-  pub room : r + 4 ≤ length s
-  pub low : r ≤ 20000
+  pub room : edgesFrom row + nodeWords ≤ length s
+  pub few : row ≤ maxNodes
 
-pub stands-row : (s : List ℕ) (k : Key) (r : ℕ) → Accepted s → StandsAt s k r → r < length s → StandingRow s k r
-stands-row s k r acc (at-row i l e) h = record { row = i; inside = l; names = e; place = refl; room = omega (arith, l, acc .nodes .header .whole); low = omega (arith, l, acc .nodes .header .nodes) }
-stands-row s k r acc (nowhere n) h = absurd (omega arith)
+-- what a search told of a sheet
+abbrev Told : List ℕ → Key → Place → Type 0
+Told s k p = FoundIs (nodeKeyAt s) (headerOf s .nodes) k p
 
--- the row whose words start there
-row-counted : (s : List ℕ) (k : Key) (r : ℕ) (x : StandingRow s k r) → (r - 6) / 4 ≡ x .row
-row-counted s k r x = omega (arith, x .place)
+-- by the header that was read, and by the words' own
+pub own-nodes : (s : List ℕ) (h : Header) (k : Key) (p : Place) → h ≡ headerOf s → FoundIs (nodeKeyAt s) (h .nodes) k p → Told s k p
+own-nodes s h k p e f = subst (λ (x : Header). FoundIs (nodeKeyAt s) (x .nodes) k p) e f
+
+pub stands-row : (s : List ℕ) (k : Key) (p : Place) → Accepted s → Told s k p → p .found ≡ true → StandingRow s k (p .row)
+stands-row s k p acc f e =
+    let (l, n) = found-there (nodeKeyAt s) (headerOf s .nodes) (acc .nodes .rise) k p f e in
+    record { inside = l; names = n; room = omega (arith, l, acc .nodes .header .whole); few = omega (arith, l, acc .nodes .header .nodes) }
 
 pub identity-in : (s : List ℕ) (k : Key) (i : ℕ) → i < headerOf s .nodes → nodeKeyAt s i ≡ k → hasIdentity s k ≡ true
 unfolding hasIdentity
 identity-in s k i l e = has-row (headerOf s .nodes) (nodeKeyAt s) k i l e
 
-pub has-none : (s : List ℕ) (k : Key) (r : ℕ) → Accepted s → StandsAt s k r → length s ≤ r → hasIdentity s k ≡ false
+-- what is told is whether the sheet has it
+pub told-has : (s : List ℕ) (k : Key) (p : Place) (b : Bool) → Told s k p → p .found ≡ b → hasIdentity s k ≡ b
 unfolding hasIdentity
-has-none s k r acc (at-row i l e) h = absurd (omega (arith, l, h, acc .nodes .header .whole))
-has-none s k r acc (nowhere n) h = has-not (headerOf s .nodes) (nodeKeyAt s) k n
+told-has s k p b f e = sym (f .told) ∙ e
 
--- the place of one that the sheet has
-has-place : (s : List ℕ) (k : Key) (r : ℕ) → Accepted s → StandsAt s k r → hasIdentity s k ≡ true → r < length s
-has-place s k r acc st h = go (decLt r (length s))
-  where
-    go : Dec (r < length s) → r < length s
-    go (yes l) = l
-    go (no l) = absurd (true≢false (sym h ∙ has-none s k r acc st (omega arith)))
+has-told : (s : List ℕ) (k : Key) (p : Place) → Told s k p → hasIdentity s k ≡ true → p .found ≡ true
+unfolding hasIdentity
+has-told s k p f e = f .told ∙ e
 
 -- ---- 32
 
@@ -134,14 +118,13 @@ module _ (a b : List ℕ) (k : Key) where
         go false e = absurd (omega (arith, e))
 
     -- the row that a search found in the first sheet
-    pub first-row : (i : ℕ) → r .number ≡ 0 → StandsAt a k i → i < length a → StandingRow a k i
-    first-row i z st l = stands-row a k i (both-accepted z .0) st l
+    pub first-row : (p : Place) → r .number ≡ 0 → Told a k p → p .found ≡ true → StandingRow a k (p .row)
+    first-row p z st l = stands-row a k p (both-accepted z .0) st l
 
     -- the second sheet has what the first has not, so its row stands there
-    pub second-row : (i j : ℕ) → r .number ≡ 0 → StandsAt a k i → length a ≤ i → StandsAt b k j → StandingRow b k j
-    second-row i j z st l su =
-        let A = both-accepted z in
-        stands-row b k j (A .1) su (has-place b k j (A .1) su (in-other z (has-none a k i (A .0) st l)))
+    pub second-row : (p q : Place) → r .number ≡ 0 → Told a k p → p .found ≡ false → Told b k q → StandingRow b k (q .row)
+    second-row p q z st l su =
+        stands-row b k q (both-accepted z .1) su (has-told b k q su (in-other z (told-has a k p false st l)))
 
     -- ---- where it stands
 
@@ -151,11 +134,11 @@ module _ (a b : List ℕ) (k : Key) where
     answers : (x : Answer) (sheet row : ℕ) → r .number ≡ 0 → StandsIn a b k sheet row → x ≡ tells sheet row → PlacesIdentity a b k x
     answers x sheet row z st e = subst (λ (y : Answer). PlacesIdentity a b k y) (sym e) (Replies.answered sheet row (fault ∙ z) st)
 
-    pub places-first : (x : Answer) (at row : ℕ) → r .number ≡ 0 → StandingRow a k at → row ≡ (at - 6) / 4 → x ≡ tells 1 row → PlacesIdentity a b k x
-    places-first x at row z w q e = answers x 1 row z (subst (StandsIn a b k 1) (sym (q ∙ row-counted a k at w)) (of-first (w .row) (w .inside) (w .names))) e
+    pub places-first : (x : Answer) (row : ℕ) → r .number ≡ 0 → StandingRow a k row → x ≡ tells 1 row → PlacesIdentity a b k x
+    places-first x row z w e = answers x 1 row z (of-first row (w .inside) (w .names)) e
 
-    pub places-second : (x : Answer) (at row : ℕ) → r .number ≡ 0 → hasIdentity a k ≡ false → StandingRow b k at → row ≡ (at - 6) / 4 → x ≡ tells 2 row → PlacesIdentity a b k x
-    places-second x at row z h w q e = answers x 2 row z (subst (StandsIn a b k 2) (sym (q ∙ row-counted b k at w)) (of-second (w .row) h (w .inside) (w .names))) e
+    pub places-second : (x : Answer) (row : ℕ) → r .number ≡ 0 → hasIdentity a k ≡ false → StandingRow b k row → x ≡ tells 2 row → PlacesIdentity a b k x
+    places-second x row z h w e = answers x 2 row z (of-second row h (w .inside) (w .names)) e
 
 -- ---- which part is given
 
@@ -181,15 +164,11 @@ module _ (a b : Part) (k k′ : Key) (r : Refusal) (f : r ≡ lookFault (a .word
   pub gives-none : (r .number ≡ 0 → ⊥) → LooksUp a b k′ (reached a 0 0)
   gives-none z = by-key _ _ (reached-is a 0 0 0 refl) (refused (λ e. z (sym fault-of ∙ e)))
 
-  pub gives-first : (at : ℕ) → r .number ≡ 0 → StandingRow (a .words) k at → LooksUp a b k′ (reached a at (at + 4))
-  gives-first at z x =
-      by-key _ _ (reached-is a at (at + 4) nodeWords refl)
-      (subst (λ (y : ℕ). LooksUp a b k (stretch a y nodeWords)) (sym (x .place)) (in-first (x .row) (fault-of ∙ z) (x .inside) (x .names)))
+  pub gives-first : (row : ℕ) → r .number ≡ 0 → StandingRow (a .words) k row → LooksUp a b k′ (reached a (edgesFrom row) (edgesFrom row + nodeWords))
+  gives-first row z x = by-key _ _ (reached-is a (edgesFrom row) (edgesFrom row + nodeWords) nodeWords refl) (in-first row (fault-of ∙ z) (x .inside) (x .names))
 
-  pub gives-second : (at : ℕ) → r .number ≡ 0 → hasIdentity (a .words) k ≡ false → StandingRow (b .words) k at → LooksUp a b k′ (reached b at (at + 4))
-  gives-second at z h x =
-      by-key _ _ (reached-is b at (at + 4) nodeWords refl)
-      (subst (λ (y : ℕ). LooksUp a b k (stretch b y nodeWords)) (sym (x .place)) (in-second (x .row) (fault-of ∙ z) h (x .inside) (x .names)))
+  pub gives-second : (row : ℕ) → r .number ≡ 0 → hasIdentity (a .words) k ≡ false → StandingRow (b .words) k row → LooksUp a b k′ (reached b (edgesFrom row) (edgesFrom row + nodeWords))
+  gives-second row z h x = by-key _ _ (reached-is b (edgesFrom row) (edgesFrom row + nodeWords) nodeWords refl) (in-second row (fault-of ∙ z) h (x .inside) (x .names))
 
 -- by the key that was asked for
 pub place-part : (a b : List ℕ) (k k′ : Key) (x : Answer) → k ≡ k′ → PlacesIdentity a b k x → PlacesIdentity a b k′ x

@@ -4,7 +4,6 @@ use Prim.Native.Nat.{ℕ, _<_}
 use mathlib.Core.Path.{_≡_}
 use mathlib.Core.Bool.{Bool, false, not, _||_}
 use mathlib.Core.List.{List}
-use lib.ListN.{length}
 use Rattle.tables.specs.Count.{has}
 use Rattle.tables.specs.Key.{Key}
 use Rattle.sheet.specs.declared.Refusal.{Refusal}
@@ -46,8 +45,3 @@ pub data StandsIn (a b : List ℕ) (k : Key) : ℕ → ℕ → Type 0 where
 -- the place of the row that a lookup gives, or what the lookup is refused by
 abbrev pub PlacesIdentity : List ℕ → List ℕ → Key → Answer → Type 0
 PlacesIdentity a b k = Replies (lookFault a b k) (StandsIn a b k)
-
--- where the words of an identity's row start; the length where no row has it
-pub data StandsAt (s : List ℕ) (k : Key) : ℕ → Type 0 where
-  at-row : (i : ℕ) → i < headerOf s .nodes → nodeKeyAt s i ≡ k → StandsAt s k (edgesFrom i)
-  nowhere : ((i : ℕ) → i < headerOf s .nodes → nodeKeyAt s i ≡ k → ⊥) → StandsAt s k (length s)

@@ -1,47 +1,45 @@
 // Looking an identity up in two sheets at once: its row as it stands in the first that has it, and why there is none.
 use question::Answer;
-use sheet::Found;
-use sheet::Node;
+use sheet::Cells;
+use sheet::Half;
+use sheet::Place;
 use sheet::Refusal;
 ghost use mathlib.Core.Path.{_≡_};
-ghost use Prim.Native.Nat.{_-_, _/_, _≤_};
 ghost use Rattle.tables.specs.Key.{identity};
 ghost use Rattle.sheet.specs.Parts.{lent};
-ghost use Rattle.sheet.specs.Rows.{nodeKey};
+ghost use Rattle.sheet.specs.Rows.{headerOf, nodeKeyAt, rowKey};
 ghost use Rattle.sheet.specs.Accepted.{Accepted};
-ghost use Rattle.lookup.specs.Looked.{neither, lookFault, LooksUp, PlacesIdentity, StandsAt};
+ghost use Rattle.sheet.specs.Found.{FoundIs};
+ghost use Rattle.lookup.specs.Looked.{neither, lookFault, LooksUp, PlacesIdentity};
 
-// Where the words of an identity's row start; the length where no row has it.
-fn word_place(sheet: &[u32], wanted: Node) -> usize
+// Where an identity's row stands in a sheet, or would stand.
+fn find_identity(sheet: &[u32], wanted: Cells) -> Place
     requires { ⌜ Accepted (now sheet) ⌝ }
-    ensures { λ r. ⌜ StandsAt (now (sheet .entry)) (nodeKey wanted) r ⌝ }
+    ensures { λ r. ⌜ FoundIs (nodeKeyAt (now (sheet .entry))) (headerOf (now (sheet .entry)) .nodes) (rowKey wanted) r ⌝ }
 {
     let h = sheet::header_of(sheet);
-    match sheet::find_node(sheet, h, wanted) {
-        Found::At(i) => sheet::HEADER_WORDS + sheet::NODE_WORDS * i,
-        Found::Nowhere => sheet.len(),
-    }
+    sheet::find_row(Half::Nodes, sheet, h, wanted)
 }
 
 // 32 where neither sheet has the identity.
-fn missing_in(first: &[u32], second: &[u32], wanted: Node) -> u32
+fn missing_in(first: &[u32], second: &[u32], wanted: Cells) -> u32
     requires { ⌜ Accepted (now first) × Accepted (now second) ⌝ }
-    ensures { λ r. ⌜ r ≡ neither (now (first .entry)) (now (second .entry)) (nodeKey wanted) ⌝ }
+    ensures { λ r. ⌜ r ≡ neither (now (first .entry)) (now (second .entry)) (rowKey wanted) ⌝ }
 {
-    let here = word_place(first, wanted);
-    if here < first.len() {
+    let here = find_identity(first, wanted);
+    if here.found {
         return 0;
     }
-    let there = word_place(second, wanted);
-    if there < second.len() {
+    let there = find_identity(second, wanted);
+    if there.found {
         return 0;
     }
     32
 }
 
 // What is refused of a lookup.
-fn look_fault(first: &[u32], second: &[u32], wanted: Node) -> Refusal
-    ensures { λ r. ⌜ r ≡ lookFault (now (first .entry)) (now (second .entry)) (nodeKey wanted) ⌝ }
+fn look_fault(first: &[u32], second: &[u32], wanted: Cells) -> Refusal
+    ensures { λ r. ⌜ r ≡ lookFault (now (first .entry)) (now (second .entry)) (rowKey wanted) ⌝ }
 {
     let r = verdict::check_as(1, first);
     if r.number != 0 {
@@ -73,22 +71,16 @@ pub fn look_up<'a>(
     if r.number != 0 {
         return &first[0..0];
     }
-    let i = word_place(first, wanted);
-    if i < first.len() {
-        let e = i + 4;
+    let one = find_identity(first, wanted);
+    if one.found {
+        let i = sheet::HEADER_WORDS + sheet::NODE_WORDS * one.row;
+        let e = i + sheet::NODE_WORDS;
         return &first[i..e];
     }
-    let j = word_place(second, wanted);
-    let f = j + 4;
+    let other = find_identity(second, wanted);
+    let j = sheet::HEADER_WORDS + sheet::NODE_WORDS * other.row;
+    let f = j + sheet::NODE_WORDS;
     &second[j..f]
-}
-
-// The node row whose words start at a place.
-fn row_from(place: usize) -> u32
-    requires { ⌜ (6 ≤ place) × (place ≤ 20000) ⌝ }
-    ensures { λ r. ⌜ r ≡ (place - 6) / 4 ⌝ }
-{
-    ((place - sheet::HEADER_WORDS) / sheet::NODE_WORDS) as u32
 }
 
 // Where the row stands that a lookup gives: the sheet, 1 or 2, in `value`, and its node row in `count`.
@@ -100,12 +92,12 @@ pub fn look_up_place(first: &[u32], second: &[u32], class: u32, number: u32, var
     if r.number != 0 {
         return question::refused(r);
     }
-    let near = word_place(first, wanted);
-    if near < first.len() {
-        return question::told(1, row_from(near));
+    let near = find_identity(first, wanted);
+    if near.found {
+        return question::told(1, near.row as u32);
     }
-    let far = word_place(second, wanted);
-    question::told(2, row_from(far))
+    let far = find_identity(second, wanted);
+    question::told(2, far.row as u32)
 }
 
 // The number and place of what a lookup with the same arguments is refused by; 0 throughout where the identity is found.

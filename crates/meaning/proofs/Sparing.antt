@@ -2,20 +2,20 @@
 -- Assumes nothing.
 use Prim.Native.Nat.{ℕ, _≤_}
 use native.Mathlib.Omega.{arith}
-use mathlib.Core.Path.{_≡_, sym, subst}
-use mathlib.Core.Bool.{Bool, true, false}
-use mathlib.Core.List.{List, _∷_}
+use mathlib.Core.Path.{_≡_, refl, sym, ap, subst, _∙_}
+use mathlib.Core.Bool.{Bool, true, false, _&&_}
+use mathlib.Core.List.{List, [], _∷_}
 use mathlib.Core.Logic.{_↔_}
 use lib.Dec.{eqb}
 use lib.ListN.{length}
-use Rattle.tables.specs.Key.{Key, relation}
+use Rattle.tables.specs.Key.{Key, relation, sameKey}
 use Rattle.tables.specs.Office.{View}
 use Rattle.tables.proofs.Keys.{same-or}
-use Rattle.sheet.specs.Kinds.{memberKind, containedKind, appliesKind}
+use Rattle.sheet.specs.Kinds.{memberKind, containedKind, grantKind, banKind, appliesKind}
 use Rattle.paths.specs.Leads.{leads, Reach, here, more, Beyond}
 use Rattle.paths.proofs.Ways.{joined, reach-back, reach-map}
 use Rattle.paths.proofs.Detours.{still, apart-from, detour-reach}
-use Rattle.meaning.specs.Paths.{Side, grant, ban, rightKind, person, category, deed, folio, member, contained, right, applies, step, HasPath}
+use Rattle.meaning.specs.Paths.{Side, grant, ban, rightKind, person, category, deed, folio, member, contained, right, applies, step, path, spell, categoriesIn, variantIn, isPath, HasPath}
 use Rattle.meaning.specs.Answers.{Says, AnswerIs}
 use Rattle.meaning.specs.Source.{Authorised}
 use Rattle.meaning.specs.Questions.{HasBanRow, AlsoMember, Redundant, member-row, containment-row, right-row}
@@ -198,3 +198,25 @@ says-as false e x = λ q. x (e .1 q)
 -- so who has the same paths has the same answer
 pub answer-spared : (g h : View) (p d f r : ℕ) → ((side : Side) → HasPath g side p d f ↔ HasPath h side p d f) → AnswerIs g p d f r → AnswerIs h p d f r
 answer-spared g h p d f r same a = record { grants = a .grants; bans = a .bans; granted = says-as (a .grants) (same grant) (a .granted); banned = says-as (a .bans) (same ban) (a .banned); number = a .number }
+
+-- ---- paths are made of relations alone
+
+path-edges : (g h : View) → g .edge ≡ h .edge → (side : Side) (p d f : ℕ) (cs : List ℕ) (v : ℕ) → path g side p d f cs v ≡ path h side p d f cs v
+unfolding path
+path-edges g h e side p d f [] v = refl
+path-edges g h e grant p d f (a ∷ cs) v =
+    ap (λ (E : Key → Bool). E (relation memberKind (person p) (category a)) && leads (λ x y. E (relation containedKind (category x) (category y))) (λ x. E (relation grantKind (category x) (deed d v)) && E (relation appliesKind (deed d v) (folio f))) a cs) e
+path-edges g h e ban p d f (a ∷ cs) v =
+    ap (λ (E : Key → Bool). E (relation memberKind (person p) (category a)) && leads (λ x y. E (relation containedKind (category y) (category x))) (λ x. E (relation banKind (category x) (deed d v)) && E (relation appliesKind (deed d v) (folio f))) a cs) e
+
+path-along : (g h : View) → g .edge ≡ h .edge → (side : Side) (p d f : ℕ) → HasPath g side p d f → HasPath h side p d f
+unfolding isPath
+path-along g h e side p d f P =
+    record {
+      words = P .words;
+      is = ap (λ (b : Bool). sameKey (P .words) (spell p (categoriesIn (P .words)) d (variantIn (P .words)) f) && b) (sym (path-edges g h e side p d f (categoriesIn (P .words)) (variantIn (P .words)))) ∙ P .is;
+    }
+
+-- who sees the same relations has the same paths, whatever identities stand
+pub same-edges-path : (g h : View) → ((k : Key) → g .edge k ≡ h .edge k) → (side : Side) (p d f : ℕ) → HasPath g side p d f ↔ HasPath h side p d f
+same-edges-path g h e side p d f = (path-along g h (λ i k. e k i) side p d f, path-along h g (λ i k. sym (e k) i) side p d f)

@@ -69,7 +69,7 @@ pub record Round (R : ℕ → ℕ → Type 0) (v : ℕ) (d₀ q₀ : List ℕ) (
   pub came : (i : ℕ) → getD d₀ i 0 ≡ 0 → 0 < getD d i 0 → Queued q n₀ n i
   pub led : (k : ℕ) → n₀ ≤ k → k < n → (a : ℕ) × R a (getD q k 0)
 
--- r is the least node that a step leads to from a and that is numbered w, or the limit where there is none
+-- r is the least node that a step leads to from a and that is numbered w; no node stands at the limit
 pub record LeastNext (limit : ℕ) (R : ℕ → ℕ → Type 0) (d : List ℕ) (a w r : ℕ) : Type 0 where
   pub most : r ≤ limit
   pub found : r < limit → (getD d r 0 ≡ w) × R a r

@@ -1,17 +1,21 @@
 -- What questions 1 to 4 refuse, in the table's order.
 -- Assumes nothing.
-use Prim.Native.Nat.{ℕ, zero, suc}
+use Prim.Native.Nat.{ℕ, zero, suc, _<_}
+use mathlib.Core.Path.{_≡_}
 use mathlib.Core.Bool.{Bool, true, false, not, _&&_, _||_}
 use mathlib.Core.List.{List}
-use Rattle.tables.specs.Count.{someRow}
+use Rattle.tables.specs.Count.{someRow, FirstStanding}
+use Rattle.tables.specs.Key.{identity}
 use Rattle.tables.specs.Marks.{marked}
 use Rattle.tables.specs.Office.{View}
 use Rattle.sheet.specs.Kinds.{personType, deedType, folioType}
 use Rattle.sheet.specs.declared.Refusal.{Refusal}
 use Rattle.sheet.specs.declared.Header.{Header}
 use Rattle.sheet.specs.declared.Seat.{Seat}
+use Rattle.sheet.specs.declared.Place.{Place}
+use Rattle.sheet.specs.Found.{PlaceIs}
 use Rattle.sheet.specs.Refusals.{_is_, _below_, _when_otherwise_, _orElse_, none, refuse, _then_}
-use Rattle.sheet.specs.Rows.{headerOf, nodeAt}
+use Rattle.sheet.specs.Rows.{headerOf, nodeAt, nodeKeyAt}
 use Rattle.sheet.specs.Seats.{seatAt, seenFrom}
 use Rattle.sheet.specs.Verdict.{verdict}
 use Rattle.meaning.specs.Paths.{Side, grant, ban}
@@ -34,6 +38,12 @@ asked s q = seenFrom s (seatFor q)
 -- node row i has the type and the number, and the office's mark, or any where `any` says so
 unfoldable pub stands : List ℕ → Bool → ℕ → ℕ → ℕ → ℕ → Bool
 stands s any office class number i = nodeAt s i .class is class && (nodeAt s i .number is number && (any || marked (nodeAt s i .offices) office))
+
+-- of n node rows, what a search tells: whether one stands, and the first that does, or else the place of the type and the number without a variant
+pub record SoughtAt (s : List ℕ) (any : Bool) (office class number n : ℕ) (p : Place) : Type 0 where
+  pub told : p .found ≡ someRow (stands s any office class number) n
+  pub first : p .found ≡ true → (p .row < n) × FirstStanding (stands s any office class number) n (p .row)
+  pub place : p .found ≡ false → PlaceIs (nodeKeyAt s) n (identity class number 0) (p .row)
 
 -- there is a row of this type and number marked with the office; or, for a joint answer, with any office
 unfoldable pub known : List ℕ → Bool → ℕ → ℕ → ℕ → Bool

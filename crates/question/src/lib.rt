@@ -1,21 +1,22 @@
 // What a question is, what it is refused by for its office and identities, and what every reply is made of.
 use sheet::BAN;
 use sheet::GRANT;
+use sheet::Half;
 use sheet::Header;
 use sheet::Node;
+use sheet::Place;
 use sheet::Refusal;
 use sheet::Seat;
 ghost use mathlib.Core.Path.{_≡_};
 ghost use mathlib.Core.Bool.{_&&_, _||_};
 ghost use Prim.Native.Nat.{_^_, _<_, _≤_};
-ghost use Rattle.tables.specs.Count.{FirstStanding};
 ghost use Rattle.sheet.specs.Limits.{maxOffices};
 ghost use Rattle.sheet.specs.Refusals.{_is_};
 ghost use Rattle.tables.specs.Marks.{marked};
 ghost use Rattle.sheet.specs.Accepted.{NodesFormed};
 ghost use Rattle.sheet.specs.Seats.{seatAt, Seated};
 ghost use Rattle.meaning.specs.Paths.{rightKind};
-ghost use Rattle.question.specs.Asked.{stands, badOffice, sideOf};
+ghost use Rattle.question.specs.Asked.{SoughtAt, badOffice, sideOf};
 ghost use Rattle.question.specs.Replies.{refusedBy, tells};
 
 // What a question's kind asks for: grants, or bans, which any other number asks for too.
@@ -54,21 +55,34 @@ fn is_standing(r: Node, any: bool, seat: Seat, class: u32, number: u32) -> bool
     (r.class == class) & ((r.number == number) & (any | marked))
 }
 
-// The first node row of the type and the number that the seat's office has, or any office where `any` says so; the node count where there is none.
-pub fn seek(sheet: &[u32], h: Header, any: bool, seat: Seat, class: u32, number: u32) -> u32
+// The first node row of the type and the number that the seat's office has, or any office where `any` says so; else where variant 0 would stand.
+pub fn seek(sheet: &[u32], h: Header, any: bool, seat: Seat, class: u32, number: u32) -> Place
     requires { ⌜ NodesFormed (now sheet) h × Seated seat ⌝ }
-    ensures { λ r. ⌜ FirstStanding (stands (now (sheet .entry)) any (seat .office) class number) (h .nodes) r ⌝ }
+    ensures { λ r. ⌜ SoughtAt (now (sheet .entry)) any (seat .office) class number (h .nodes) r ⌝ }
 {
-    let n = h.nodes;
-    let mut i: u32 = 0;
+    let place = sheet::place_of(Half::Nodes, sheet, h, sheet::named(class, number, 0));
+    let n = h.nodes as usize;
+    let mut i = place;
     while i < n {
-        let r = sheet::node_at(sheet, i as usize);
+        let r = sheet::node_at(sheet, i);
         if is_standing(r, any, seat, class, number) {
-            return i;
+            return Place {
+                found: true,
+                row: i,
+            };
+        }
+        if (r.class != class) | (r.number != number) {
+            return Place {
+                found: false,
+                row: place,
+            };
         }
         i += 1;
     }
-    n
+    Place {
+        found: false,
+        row: place,
+    }
 }
 
 // The mark of office k + 1.

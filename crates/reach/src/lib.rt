@@ -12,8 +12,11 @@ ghost use Rattle.reach.specs.Reaching.{ReachedFrom};
 // One number for each node row.
 const ROWS: usize = sheet::MAX_NODES as usize;
 
-// The count that stands for no triple or pair at all.
-pub const NONE: u32 = 4294967295;
+// What a question finds in a list: whether there is what it asks for, and how many words in front tell it; 0 where there is none.
+pub struct FoundWords {
+    pub found: bool,
+    pub count: u32,
+}
 
 // Puts a word behind the first n of a list, where it is wanted; how many there are then.
 pub fn put(list: &mut [u32], n: u32, good: bool, x: u32) -> u32

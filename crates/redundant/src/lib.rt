@@ -1,4 +1,5 @@
 // Question 10 at an office: the rows that are redundant, each judged by walks without its step.
+use reach::FoundWords;
 use sheet::BAN;
 use sheet::Edge;
 use sheet::GRANT;
@@ -125,7 +126,7 @@ fn prune(
     grantindex: &[u32],
     banindex: &[u32],
     list: &mut [u32],
-) -> u32
+) -> FoundWords
     requires { ⌜ AtSeat (now sheet) (now edges) h seat × BothArranged (now sheet) (now edges) h seat (now grantindex) (now banindex) × (bans ≡ someRow (banAt (now edges) h seat) (h .edges)) × (length (now list) ≡ mostEdges) ⌝ }
     ensures { λ r. ⌜ Finds (RedundantEdgesAre (now (sheet .entry)) (seat .office)) (now (list .exit)) r ⌝ }
 {
@@ -137,7 +138,10 @@ fn prune(
         n = reach::put(list, n, good, j);
         j += 1;
     }
-    n
+    FoundWords {
+        found: true,
+        count: n,
+    }
 }
 
 // Question 10 from the seat: the rows that are redundant, rising.
@@ -147,7 +151,7 @@ pub fn redundant_edges_at(
     h: Header,
     seat: Seat,
     list: &mut [u32],
-) -> u32
+) -> FoundWords
     requires { ⌜ AtSeat (now sheet) (now edges) h seat × (length (now list) ≡ mostEdges) ⌝ }
     ensures { λ r. ⌜ Finds (RedundantEdgesAre (now (sheet .entry)) (seat .office)) (now (list .exit)) r ⌝ }
 {

@@ -2,7 +2,7 @@
 -- Assumes nothing.
 use Prim.Native.Nat.{ℕ, _+_, _^_, _<_}
 use mathlib.Core.Path.{_≡_, refl, sym, _∙_, ap}
-use mathlib.Core.Bool.{true, true≢false}
+use mathlib.Core.Bool.{Bool, true, false, true≢false}
 use mathlib.Core.List.{List, [], _∷_, _++_}
 use native.Mathlib.Omega.{arith}
 use Rattle.tables.specs.Key.{Key, identity, relation, belowKey}
@@ -10,7 +10,7 @@ use Rattle.tables.specs.Marks.{marked, within}
 use Rattle.tables.specs.Table.{marksAt, Rise}
 use Rattle.tables.specs.Office.{heldBy, Same}
 use Rattle.tables.proofs.Alike.{held-marks}
-use Rattle.tables.proofs.Keys.{Lies, lower, equal, higher, lies, below-apart, below-asym, Ahead, first, rest, ahead, behind, below-first, below-second, rises}
+use Rattle.tables.proofs.Keys.{Lies, lower, equal, higher, lies, below-apart, below-asym, Ahead, first, rest, ahead, behind, below-first, below-second, rises, one-row}
 use Rattle.tables.proofs.Marks.{within-marked}
 use Rattle.tables.proofs.Tables.{rows-rise, MarkedRow, held-row, row-held}
 use Rattle.sheet.specs.declared.Edge.{Edge}
@@ -156,3 +156,41 @@ marks-held s t v w o p nodes edges =
       nodes = λ k. node-marked s v o k ∙ nodes k ∙ sym (node-marked t w p k);
       edges = λ k. edge-marked s v o k ∙ edges k ∙ sym (edge-marked t w p k);
     }
+
+-- ---- one edge row, by row numbers and by what it names
+
+-- the row between two node rows is the row of the relation between their identities ..
+pub rows-named : (s : List ℕ) (j kind from to : ℕ) → edgeKey (edgeOf s j) ≡ identity kind from to → edgeRow s (edgeTable s) j .key ≡ relation kind (nodeKeyAt s from) (nodeKeyAt s to)
+unfolding edgeRow
+rows-named s j kind from to e =
+    let a : edgeOf s j .kind ≡ kind = cc e in
+    let b : edgeOf s j .from ≡ from = cc e in
+    let c : edgeOf s j .to ≡ to = cc e in
+    λ i. relation (a i) (nodeKeyAt s (b i)) (nodeKeyAt s (c i))
+
+module _ (s : List ℕ) (w : Accepted s) where
+  -- .. and back, since an identity has one row
+  pub named-rows : (j kind from to : ℕ) → j < headerOf s .edges → from < headerOf s .nodes → to < headerOf s .nodes
+      → edgeRow s (edgeTable s) j .key ≡ relation kind (nodeKeyAt s from) (nodeKeyAt s to) → edgeKey (edgeOf s j) ≡ identity kind from to
+  unfolding edgeRow
+  named-rows j kind from to l f t e =
+      let p = w .edges .shaped j l in
+      let a : edgeOf s j .kind ≡ kind = cc e in
+      let x : nodeKeyAt s (edgeOf s j .from) ≡ nodeKeyAt s from = cc e in
+      let y : nodeKeyAt s (edgeOf s j .to) ≡ nodeKeyAt s to = cc e in
+      let b = one-row (nodeKeyAt s) (headerOf s .nodes) (w .nodes .rise) (edgeOf s j .from) from (p .from) f x in
+      let c = one-row (nodeKeyAt s) (headerOf s .nodes) (w .nodes .rise) (edgeOf s j .to) to (p .to) t y in
+      λ i. identity (a i) (b i) (c i)
+
+  -- what an office sees of an edge row's relation is the row's mark
+  pub row-seen : (office j : ℕ) → j < headerOf s .edges → seenAt s office .edge (edgeRow s (edgeTable s) j .key) ≡ marked (edgeOf s j .offices) office
+  unfolding edgeRow
+  row-seen office j l = go (marked (edgeOf s j .offices) office) refl (seenAt s office .edge (edgeRow s (edgeTable s) j .key)) refl
+    where
+      go : (b : Bool) → marked (edgeOf s j .offices) office ≡ b → (x : Bool) → seenAt s office .edge (edgeRow s (edgeTable s) j .key) ≡ x → x ≡ b
+      go true m x e = sym e ∙ seen-edge s w office (edgeRow s (edgeTable s) j .key) (record { row = j; inside = l; names = refl; bears = m })
+      go false m false e = refl
+      go false m true e =
+          let r = edge-seen s w office (edgeRow s (edgeTable s) j .key) e in
+          let q = one-row (λ i. edgeRow s (edgeTable s) i .key) (headerOf s .edges) (edges-up s w) (r .row) j (r .inside) l (r .names) in
+          absurd (true≢false (sym (r .bears) ∙ (ap (λ (i : ℕ). marked (edgeOf s i .offices) office) q ∙ m)))

@@ -7,6 +7,8 @@ use listing::Listing;
 use opened::Which;
 use question::Answer;
 use question::Question;
+use sheet::Edge;
+use sheet::Node;
 use sheet::Refusal;
 ghost use mathlib.Core.Path.{_≡_};
 ghost use Prim.Native.Nat.{_*_, _≤_};
@@ -243,6 +245,35 @@ fn ask_file(q: Request, file: &[u8], out: &mut [u32]) -> Answer
     }
 }
 
+// Operations 32 and 33: where a row stands or would stand. 34 and 35: a row added.
+fn row_words(q: Request, sheet: &[u32], out: &mut [u32]) -> Answer {
+    let operation = q.operation;
+    match operation {
+        32 => find::find_node(sheet, q.a1, q.a2, q.a3),
+        33 => find::find_edge(sheet, q.a1, q.a2, q.a3),
+        34 => add::add_node(
+            sheet,
+            Node {
+                class: q.a1,
+                number: q.a2,
+                variant: q.a3,
+                offices: q.a4,
+            },
+            out,
+        ),
+        _ => add::add_edge(
+            sheet,
+            Edge {
+                kind: q.a1,
+                from: q.a2,
+                to: q.a3,
+                offices: q.a4,
+            },
+            out,
+        ),
+    }
+}
+
 // The operation's function on its payloads, of bytes or of words, and its output.
 fn answer<'a>(
     q: Request,
@@ -271,6 +302,9 @@ fn answer<'a>(
     }
     if (21 <= operation) & (operation <= 23) {
         return replied(ask_file(q, file, out));
+    }
+    if (32 <= operation) & (operation <= 35) {
+        return replied(row_words(q, first, out));
     }
     match operation {
         0 => reply_of_refusal(verdict::check(first)),

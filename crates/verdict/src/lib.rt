@@ -3,6 +3,7 @@ use sheet::APPLIES;
 use sheet::BAN;
 use sheet::CATEGORY;
 use sheet::CONTAINED;
+use sheet::Cells;
 use sheet::DEED;
 use sheet::Edge;
 use sheet::FOLIO;
@@ -22,10 +23,9 @@ ghost use Prim.Native.Nat.{_<_, _≤_};
 ghost use lib.ListN.{length};
 ghost use Rattle.tables.specs.Marks.{marksFit, within};
 ghost use Rattle.sheet.specs.Limits.{maxOffices};
-ghost use mathlib.Core.Bool.{_&&_};
-ghost use Rattle.sheet.specs.Refusals.{_below_, _when_otherwise_, _orElse_, firstRow};
-ghost use Rattle.sheet.specs.Rows.{endsFit, countIn};
-ghost use Rattle.sheet.specs.Verdict.{headerFault, sheetFault, nodeFault, nodeOrder, nodeFaultAt, edgeShape, edgeFit, edgeOrder, edgeRest, edgeFaultAt, rowsVerdict, verdict};
+ghost use Rattle.sheet.specs.Refusals.{_orElse_, firstRow};
+ghost use Rattle.sheet.specs.Rows.{endsFit, countIn, rowKey};
+ghost use Rattle.sheet.specs.Verdict.{headerFault, sheetFault, nodeFault, rowOrder, nodeFaultAt, edgeShape, edgeFit, edgeRest, edgeFaultAt, edgeFault, rowFault, rowsVerdict, verdict};
 ghost use Rattle.verdict.specs.Each.{faultAt};
 ghost use Rattle.sheet.specs.Accepted.{HeaderFits, EdgeRoom, EdgeShaped};
 
@@ -146,43 +146,19 @@ fn edge_fit(h: Header, e: Edge, a: Node, b: Node) -> u32
     0
 }
 
-// Row i beside the row before it, whose keys are the same, or of which this one's is lower.
-fn row_order(equal: u32, lower: u32, i: usize, same: bool, less: bool) -> u32
-    ensures { λ k. ⌜ k ≡ (equal when 0 below i && same otherwise lower when 0 below i && less otherwise 0) ⌝ }
+// Row i beside the row before it: one number where both are the same but for their offices, another where this one is lower.
+fn row_order(equal: u32, lower: u32, i: usize, before: Cells, c: Cells) -> u32
+    ensures { λ k. ⌜ k ≡ rowOrder equal lower i (rowKey before) (rowKey c) ⌝ }
 {
+    let same = sheet::same_row(before, c);
     if (0 < i) & same {
         return equal;
     }
+    let less = sheet::below_row(c, before);
     if (0 < i) & less {
         return lower;
     }
     0
-}
-
-// 9 and 10, of node row i beside the row before it.
-fn node_order(i: usize, before: Node, r: Node) -> u32
-    ensures { λ k. ⌜ k ≡ nodeOrder i before r ⌝ }
-{
-    row_order(
-        9,
-        10,
-        i,
-        sheet::same_node(before, r),
-        sheet::below_node(r, before),
-    )
-}
-
-// 16 and 17, of edge row j beside the row before it.
-fn edge_order(j: usize, before: Edge, e: Edge) -> u32
-    ensures { λ k. ⌜ k ≡ edgeOrder j before e ⌝ }
-{
-    row_order(
-        16,
-        17,
-        j,
-        sheet::same_edge(before, e),
-        sheet::below_edge(e, before),
-    )
 }
 
 // 6 to 10, of node row i.
@@ -191,10 +167,9 @@ fn node_fault_at(sheet: &[u32], h: Header, i: usize) -> u32
     ensures { λ k. ⌜ k ≡ nodeFaultAt (now (sheet .entry)) h i ⌝ }
 {
     let r = sheet::node_at(sheet, i);
-    or_else(
-        node_fault(h, r),
-        node_order(i, sheet::node_at(sheet, sheet::before(i)), r),
-    )
+    let p = sheet::node_cells(sheet::node_at(sheet, sheet::before(i)));
+    let k = row_order(9, 10, i, p, sheet::node_cells(r));
+    or_else(node_fault(h, r), k)
 }
 
 // 13 to 17, of edge row j, which is e and whose ends are rows of the sheet.
@@ -204,8 +179,9 @@ fn edge_rest(sheet: &[u32], edges: &[u32], h: Header, j: usize, e: Edge) -> u32
 {
     let a = sheet::node_at(sheet, e.from as usize);
     let b = sheet::node_at(sheet, e.to as usize);
-    let p = sheet::edge_at(edges, h, sheet::before(j));
-    or_else(edge_fit(h, e, a, b), edge_order(j, p, e))
+    let p = sheet::edge_cells(sheet::edge_at(edges, h, sheet::before(j)));
+    let k = row_order(16, 17, j, p, sheet::edge_cells(e));
+    or_else(edge_fit(h, e, a, b), k)
 }
 
 // 11 to 17, of row j of the edge table.
@@ -219,6 +195,31 @@ fn edge_fault_at(sheet: &[u32], edges: &[u32], h: Header, j: usize) -> u32
         return k;
     }
     edge_rest(sheet, edges, h, j, e)
+}
+
+// 11 to 15, of an edge row that is no row of the sheet yet; its ends are named by rows of the sheet.
+fn edge_fault(sheet: &[u32], h: Header, e: Edge) -> u32
+    requires { ⌜ HeaderFits h (length (now sheet)) ⌝ }
+    ensures { λ k. ⌜ k ≡ edgeFault (now (sheet .entry)) h e ⌝ }
+{
+    let k = edge_shape(h, e);
+    if k != 0 {
+        return k;
+    }
+    let from = sheet::node_at(sheet, e.from as usize);
+    let to = sheet::node_at(sheet, e.to as usize);
+    edge_fit(h, e, from, to)
+}
+
+// What is wrong with a row by itself that is no row of the sheet yet: 6 to 8 of a node row, 11 to 15 of an edge row.
+pub fn row_fault(half: Half, sheet: &[u32], h: Header, c: Cells) -> u32
+    requires { ⌜ HeaderFits h (length (now sheet)) ⌝ }
+    ensures { λ k. ⌜ k ≡ rowFault half (now (sheet .entry)) h c ⌝ }
+{
+    match half {
+        Half::Nodes => node_fault(h, sheet::as_node(c)),
+        Half::Edges => edge_fault(sheet, h, sheet::as_edge(c)),
+    }
 }
 
 // 6 to 10 of a node row, 11 to 17 of an edge row.

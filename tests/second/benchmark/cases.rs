@@ -7,19 +7,21 @@ use crate::generate::lists;
 use crate::generate::random::Random;
 use crate::model::answer::{ask_of, ANSWER, JOINT, LISTED, WITNESS};
 use crate::model::closure::witness;
-use crate::model::limits::{MOST_EDGES, MOST_WORDS, WORD};
+use crate::model::limits::{MOST_EDGES, MOST_NODES, MOST_WORDS, WORD};
 use crate::model::listing::{lines, typed};
 use crate::model::office::{Office, Side};
-use crate::model::sheet::bytes_of;
+use crate::model::sheet::{bytes_of, node_rows, Sheet, APPLIES, FOLIO, MEMBER, PERSON};
 use crate::model::survey::*;
-use crate::trial::operation::{CHECK_WORDS, READ_LISTING, WRITE_LISTING};
+use crate::trial::operation::{
+    ADD_EDGE, ADD_NODE, CHECK_WORDS, FIND_EDGE, FIND_NODE, READ_LISTING, WRITE_LISTING,
+};
 use crate::trial::request::Request;
 
 /// Room for the longest list that a question can give.
 const ROOM: usize = MOST_EDGES;
 
 /// Each operation and what a reader calls it.
-pub const OPERATIONS: [(u32, &str); 13] = [
+pub const OPERATIONS: [(u32, &str); 17] = [
     (CHECK_WORDS, "check"),
     (ANSWER, "1, answer"),
     (JOINT, "2, joint answer"),
@@ -33,6 +35,10 @@ pub const OPERATIONS: [(u32, &str); 13] = [
     (REDUNDANT, "10, redundant edges"),
     (READ_LISTING, "a listing read"),
     (WRITE_LISTING, "a listing written"),
+    (FIND_NODE, "a node searched"),
+    (FIND_EDGE, "an edge searched"),
+    (ADD_NODE, "a node added"),
+    (ADD_EDGE, "an edge added"),
 ];
 
 pub fn work_of(operation: u32) -> Work {
@@ -48,8 +54,13 @@ pub fn work_of(operation: u32) -> Work {
 pub fn request(operation: u32, shape: Shape) -> Request {
     let work = work_of(operation);
     let office_count = if operation == JOINT { 2 } else { 1 };
-    let words = sheet(work, shape, office_count).words();
-    let numbers = numbers(operation, last_category(work, shape));
+    let full = sheet(work, shape, office_count);
+    let words = match operation {
+        ADD_NODE => without_first_node(full).words(),
+        ADD_EDGE => without_first_edge(full).words(),
+        _ => full.words(),
+    };
+    let numbers = numbers(operation, last_category(work, shape), first_category(&words));
     let second = match operation {
         LISTED => longest_path(&words, &numbers),
         _ => Vec::new(),
@@ -59,11 +70,32 @@ pub fn request(operation: u32, shape: Shape) -> Request {
         _ => bytes_of(&words),
     };
     let out_len = match operation {
-        READ_LISTING => MOST_WORDS,
+        READ_LISTING | ADD_NODE | ADD_EDGE => MOST_WORDS,
         WRITE_LISTING => typed(&words).len().div_ceil(WORD),
         _ => ROOM,
     };
     Request { operation, numbers, first, second, out_len, fill: 0 }
+}
+
+/// The row of the first category.
+fn first_category(words: &[u32]) -> u32 {
+    node_rows(words).iter().take_while(|row| row[0] == PERSON).count() as u32
+}
+
+/// Without the first person, who has one edge, the first: when it is added again, every
+/// end goes up.
+fn without_first_node(full: Sheet) -> Sheet {
+    let mut rest = without_first_edge(full);
+    rest.nodes.remove(0);
+    for edge in &mut rest.edges {
+        (edge[1], edge[2]) = (edge[1] - 1, edge[2] - 1);
+    }
+    rest
+}
+
+fn without_first_edge(mut full: Sheet) -> Sheet {
+    full.edges.remove(0);
+    full
 }
 
 /// The sheet's lines in random order, the same in every run.
@@ -87,14 +119,19 @@ pub fn overlong(count: usize) -> Request {
 }
 
 /// Office 1 or rule 1; then the first person, deed and folio, or what else the
-/// question names.
-fn numbers(operation: u32, last_category: u32) -> [u32; 6] {
+/// question names. The last node and the last edge are searched, and the first are added.
+fn numbers(operation: u32, last_category: u32, first_category: u32) -> [u32; 6] {
+    let last = MOST_NODES as u32 - 1;
     match operation {
         ANSWER | JOINT => [1, 1, 1, 1, 0, 0],
         WITNESS | LISTED => [1, 0, 1, 1, 1, 0],
         IN_CATEGORY => [1, last_category, 0, 0, 0, 0],
         GRANTED => [1, 1, 1, 0, 0, 0],
         TWO_DEEDS => [1, 1, 2, 0, 0, 0],
+        FIND_NODE => [FOLIO, 1, 0, 0, 0, 0],
+        FIND_EDGE => [APPLIES, last - 1, last, 0, 0, 0],
+        ADD_NODE => [PERSON, 1, 0, 1, 0, 0],
+        ADD_EDGE => [MEMBER, 0, first_category, 1, 0, 0],
         _ => [1, 0, 0, 0, 0, 0],
     }
 }

@@ -1,7 +1,10 @@
 //! The cases that are put to the trial program, numbered from 0. A plan has the
-//! checks, six series, one for each kind of operation, and the removals; a case
-//! follows from the seed and its number, and carries what is expected of it.
+//! checks, seven series, one for each kind of operation, the sheets built row by row, and
+//! the removals; a case follows from the seed and its number, and carries what is expected
+//! of it.
 
+pub mod additions;
+pub mod built;
 pub mod checks;
 pub mod joins;
 pub mod large;

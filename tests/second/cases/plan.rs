@@ -1,13 +1,15 @@
 //! What is put to the trial, case by case. A case of a check follows from the
 //! seed and its number alone; the questions come after the checks, 5 to 10 after
 //! 1 to 4, then the lookup, then joining and taking out, then the other ways to
-//! questions 1 to 3, then the listings, then the removals, so their numbers follow
-//! from how many there are before them.
+//! questions 1 to 3, then the listings, then rows searched and added, then sheets built
+//! row by row, then the removals, so their numbers follow from how many there are before
+//! them.
 
+use crate::cases::built::{self, Built};
 use crate::cases::checks::Checks;
 use crate::cases::removals::{self, Removals};
 use crate::cases::series::{Made, Series};
-use crate::cases::{joins, listings, lookups, questions, surveys, ways};
+use crate::cases::{additions, joins, listings, lookups, questions, surveys, ways};
 use crate::goals;
 use crate::goals::coverage::{self, Cell};
 use crate::trial::expect::expect;
@@ -45,7 +47,8 @@ pub struct Case {
 
 /// How many random cases there are: of the checks, of questions 1 to 4, of 5 to
 /// 10, of the lookup, of joining and taking out, of the other ways to questions 1
-/// to 3, and of the listings; and how many sheets from which edges are removed.
+/// to 3, of the listings, and of rows searched and added; and how many sheets are built
+/// row by row, and how many have edges removed.
 #[derive(Clone, Copy, Default)]
 pub struct Counts {
     pub checks: usize,
@@ -55,15 +58,26 @@ pub struct Counts {
     pub joins: usize,
     pub ways: usize,
     pub listings: usize,
+    pub additions: usize,
+    pub built: usize,
     pub removals: usize,
 }
 
 impl Counts {
     /// So many of everything but the checks.
     pub fn with_others(self, each: usize) -> Counts {
-        let [questions, surveys, lookups, joins, ways, listings] = [each; 6];
-        let (checks, removals) = (self.checks, each.div_ceil(removals::ASKED));
-        Counts { checks, questions, surveys, lookups, joins, ways, listings, removals }
+        Counts {
+            checks: self.checks,
+            questions: each,
+            surveys: each,
+            lookups: each,
+            joins: each,
+            ways: each,
+            listings: each,
+            additions: each,
+            built: each.div_ceil(built::ASKED),
+            removals: each.div_ceil(removals::ASKED),
+        }
     }
 
     /// At least so many in all, with shares that give each operation some, and the
@@ -71,14 +85,16 @@ impl Counts {
     pub fn of_long_run(total: usize) -> Counts {
         let share = |percent: usize| (total * percent).div_ceil(100);
         Counts {
-            checks: share(12),
-            questions: share(18),
-            surveys: share(22),
+            checks: share(11),
+            questions: share(17),
+            surveys: share(20),
             lookups: share(5),
-            joins: share(11),
-            ways: share(14),
-            listings: share(12),
-            removals: share(6).div_ceil(removals::ASKED),
+            joins: share(10),
+            ways: share(12),
+            listings: share(11),
+            additions: share(6),
+            built: share(3).div_ceil(built::ASKED),
+            removals: share(5).div_ceil(removals::ASKED),
         }
     }
 }
@@ -86,8 +102,9 @@ impl Counts {
 pub struct Plan {
     checks: Checks,
     /// Questions 1 to 4, 5 to 10, the lookup, joining and taking out, the other ways,
-    /// the listings.
-    series: [Series; 6],
+    /// the listings, rows searched and added.
+    series: [Series; 7],
+    built: Built,
     pub removals: Removals,
 }
 
@@ -102,7 +119,9 @@ impl Plan {
                 joins::series(seed, counts.joins),
                 ways::series(seed, counts.ways),
                 listings::series(seed, counts.listings),
+                additions::series(seed, counts.additions),
             ],
+            built: Built::new(seed, counts.built),
             removals: Removals::new(seed, counts.removals),
         }
     }
@@ -136,8 +155,16 @@ impl Plan {
         self.before(5)
     }
 
-    pub fn before_removals(&self) -> usize {
+    pub fn before_additions(&self) -> usize {
+        self.before(6)
+    }
+
+    pub fn before_built(&self) -> usize {
         self.before(self.series.len())
+    }
+
+    pub fn before_removals(&self) -> usize {
+        self.before_built() + self.built.len()
     }
 
     pub fn len(&self) -> usize {
@@ -147,6 +174,9 @@ impl Plan {
     pub fn case(&self, number: usize) -> Case {
         if let Some(at) = number.checked_sub(self.before_removals()) {
             return self.removals.case(number, at);
+        }
+        if let Some(at) = number.checked_sub(self.before_built()) {
+            return self.built.case(number, at);
         }
         match (0..self.series.len()).rev().find(|&at| self.before(at) <= number) {
             Some(at) => asked_case(number, self.series[at].case(number - self.before(at))),

@@ -102,7 +102,7 @@ fn kind(at: usize) -> u32 {
     [MEMBER, CONTAINED, GRANT, BAN][at % 4]
 }
 
-fn small(random: &mut Random) -> Sheet {
+pub fn small(random: &mut Random) -> Sheet {
     match random.below(10) {
         0 => scene::small(random),
         1..=4 => throng::small(random),
@@ -110,7 +110,7 @@ fn small(random: &mut Random) -> Sheet {
     }
 }
 
-fn can_be_asked(words: &[u32]) -> bool {
+pub fn can_be_asked(words: &[u32]) -> bool {
     let has = |sort: u32| node_rows(words).iter().any(|row| row[0] == sort);
     has(PERSON) && has(DEED) && has(FOLIO)
 }

@@ -217,7 +217,8 @@ fn hurt_node(random: &mut Random, wreck: &mut Wreck, number: u32, row: usize) {
     }
 }
 
-fn bad_mark(random: &mut Random, office_count: u32) -> u32 {
+/// Not within the office count.
+pub fn bad_mark(random: &mut Random, office_count: u32) -> u32 {
     let least = all_marks(office_count) + 1;
     match random.below(3) {
         0 => 0,

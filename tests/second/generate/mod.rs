@@ -1,9 +1,9 @@
 //! Sheets and what is asked of them, drawn by chance: valid sheets of many shapes,
 //! full ones, pairs that have something in common, sheets damaged on purpose or
-//! spoiled without aim, lists that are paths or nearly, and texts that are listings
-//! or nearly. What each of them is worth
-//! is for the model to say.
+//! spoiled without aim, rows to be added, lists that are paths or nearly, and texts
+//! that are listings or nearly. What each of them is worth is for the model to say.
 
+pub mod additions;
 pub mod cast;
 pub mod damage;
 pub mod desk;

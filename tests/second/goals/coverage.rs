@@ -7,7 +7,7 @@ use std::fmt;
 use crate::model::limits::WORD;
 use crate::model::place::{place_in, Place, ROW_PLACES};
 use crate::model::sheet::{edge_count, node_count, words_of};
-use crate::trial::operation::{CHECK_BYTES, CHECK_WORDS, READ_LISTING, UNKNOWN};
+use crate::trial::operation::{CHECK_BYTES, CHECK_WORDS, UNKNOWN};
 use crate::trial::request::{Expected, Request};
 
 #[derive(Clone, Copy, Debug, PartialEq, Eq, PartialOrd, Ord)]
@@ -51,8 +51,8 @@ pub fn cell(request: &Request, expected: &Expected) -> Cell {
     let place = match number {
         33 if request.first.len() % WORD != 0 => Place::Uneven,
         33 => Place::TooLong,
-        // The row is a line, and there is no table to count.
-        _ if request.operation == READ_LISTING => Place::Whole,
+        // The row is a line, or that of a row to be added: no row of a table.
+        _ if expected.reply[1] == 0 => Place::Whole,
         6..=10 => place_in(number, row, node_count(&words)),
         11..=17 => place_in(number, row, edge_count(&words)),
         _ => Place::Whole,

@@ -2,12 +2,14 @@
 //! refusals must have been reached. A goal that no case met was not tried, so each
 //! is a failed test.
 
+pub mod additions;
 pub mod contents;
 pub mod coverage;
 pub mod joins;
 pub mod lines;
 pub mod listings;
 pub mod lookups;
+pub mod positions;
 pub mod questions;
 pub mod redundant;
 pub mod removals;
@@ -18,10 +20,11 @@ pub mod ways;
 
 use std::collections::BTreeMap;
 
-use crate::model::answer::ANSWER;
+use crate::model::position::TABLES;
 use crate::model::survey::is_survey;
 use crate::trial::operation::{
-    called, operations, way_of, JOIN, LOOKUP, READ_LISTING, TAKE_OUT, WRITE_LISTING,
+    adding, called, finding, operations, table_of, way_of, ADD_EDGE, CHECK_WORDS, JOIN, LOOKUP,
+    READ_LISTING, TAKE_OUT, WRITE_LISTING,
 };
 use crate::trial::request::{Expected, Request};
 use crate::trial::scope::Scope;
@@ -36,6 +39,11 @@ pub fn needed() -> Vec<String> {
     goals.extend(ways::needed());
     goals.extend(of_operation(READ_LISTING, listings::needed_reading()));
     goals.extend(of_operation(WRITE_LISTING, listings::needed_writing()));
+    for table in TABLES {
+        goals.extend(of_operation(finding(table), positions::needed(table)));
+        goals.extend(of_operation(adding(table), additions::needed(table)));
+    }
+    goals.extend(additions::needed_built());
     goals
 }
 
@@ -47,7 +55,7 @@ fn of_operation(operation: u32, goals: Vec<String>) -> Vec<String> {
 /// question or operation.
 pub fn needed_in(scope: &Scope) -> Vec<String> {
     let of_scope = |goal: &String| {
-        let all = (ANSWER..=TAKE_OUT).chain(operations()).chain([READ_LISTING, WRITE_LISTING]);
+        let all = (CHECK_WORDS..=TAKE_OUT).chain(operations()).chain(READ_LISTING..=ADD_EDGE);
         let mut own = all.filter(|&operation| scope.has(operation));
         own.any(|operation| goal.starts_with(&format!("{}: ", called(operation))))
     };
@@ -67,6 +75,13 @@ pub fn met(request: &Request, expected: &Expected) -> Vec<String> {
         READ_LISTING => return of_operation(operation, listings::met_reading(request, expected)),
         WRITE_LISTING => return of_operation(operation, listings::met_writing(request, expected)),
         _ => {}
+    }
+    if let Some(table) = table_of(operation) {
+        let own = match operation == finding(table) {
+            true => positions::met(request, expected, table),
+            false => additions::met(request, expected, table),
+        };
+        return of_operation(operation, own);
     }
     match way_of(operation) {
         Some((way, question)) => ways::met(request, expected, way, question),

@@ -2,11 +2,14 @@
 //! The generated cases have to tell every one of them from the right one, or they
 //! would not show it in the trial either.
 
+pub mod addition_refusals;
+pub mod additions;
 pub mod join_refusals;
 pub mod joins;
 pub mod lines;
 pub mod listings;
 pub mod lookups;
+pub mod positions;
 pub mod redundant;
 pub mod surveys;
 pub mod takings;

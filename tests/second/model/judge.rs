@@ -1,6 +1,8 @@
 //! The table of refusals 33 and 1 to 17, line by line in its own order. Every
 //! word is widened to 64 bits first, so that no sum here can overflow.
 
+use std::cmp::Ordering;
+
 use crate::model::limits::{Form, HEADER, MOST_BYTES, MOST_NODES, MOST_OFFICES, NODE_WIDTH, WORD};
 use crate::model::sheet::words_of;
 
@@ -20,7 +22,7 @@ pub fn judge_bytes(bytes: &[u8]) -> Verdict {
 }
 
 pub fn judge_words(words: &[u32]) -> Verdict {
-    let sheet: Vec<u64> = words.iter().map(|&word| u64::from(word)).collect();
+    let sheet = widened(words);
     let form = match header_fault(&sheet) {
         Ok(form) => form,
         Err(number) => return Verdict { number, row: 0 },
@@ -37,6 +39,10 @@ pub fn judge_words(words: &[u32]) -> Verdict {
         }
     }
     ACCEPTED
+}
+
+pub fn widened(words: &[u32]) -> Vec<u64> {
+    words.iter().map(|&word| u64::from(word)).collect()
 }
 
 /// The form that the rows are read by, or the number of the fault.
@@ -65,74 +71,73 @@ fn header_fault(sheet: &[u64]) -> Result<Form, u32> {
 }
 
 fn node_fault(sheet: &[u64], row: u64) -> Option<u32> {
-    let [sort, number, variant, offices] = node(sheet, row);
-    if !(1..=4).contains(&sort) {
-        return Some(6);
+    let own = node(sheet, row);
+    if let Some(number) = first(&node_row_faults(sheet, own)) {
+        return Some(number);
     }
+    order_fault(own, (row > 0).then(|| node(sheet, row - 1)), [9, 10])
+}
+
+/// 6, 7 and 8, and whether each applies to a node row by itself.
+pub fn node_row_faults(sheet: &[u64], row: [u64; 4]) -> [(u32, bool); 3] {
+    let [sort, number, variant, offices] = row;
     let deed = sort == 3;
-    if number == 0 || (variant != 0 && !deed) {
-        return Some(7);
+    [
+        (6, !(1..=4).contains(&sort)),
+        (7, number == 0 || (variant != 0 && !deed)),
+        (8, !offices_in_count(sheet, offices)),
+    ]
+}
+
+/// The first that applies.
+fn first(faults: &[(u32, bool)]) -> Option<u32> {
+    faults.iter().find(|(_, applies)| *applies).map(|(number, _)| *number)
+}
+
+/// The one number where a row names what the row before it names, and the other where
+/// it is lower. Offices do not count.
+fn order_fault(row: [u64; 4], before: Option<[u64; 4]>, [equal, lower]: [u32; 2]) -> Option<u32> {
+    match row[..3].cmp(&before?[..3]) {
+        Ordering::Equal => Some(equal),
+        Ordering::Less => Some(lower),
+        Ordering::Greater => None,
     }
-    if !offices_in_count(sheet, offices) {
-        return Some(8);
-    }
-    if row > 0 {
-        let [sort_before, number_before, variant_before, _] = node(sheet, row - 1);
-        let before = (sort_before, number_before, variant_before);
-        if (sort, number, variant) == before {
-            return Some(9);
-        }
-        if (sort, number, variant) < before {
-            return Some(10);
-        }
-    }
-    None
 }
 
 fn edge_fault(sheet: &[u64], form: Form, row: u64) -> Option<u32> {
-    let n = sheet[2];
-    let [kind, from, to, offices] = edge(sheet, form, row);
-    if !(1..=5).contains(&kind) {
-        return Some(11);
+    let own = edge(sheet, form, row);
+    if let Some(number) = first(&edge_row_faults(sheet, own)) {
+        return Some(number);
     }
-    if from >= n || to >= n {
-        return Some(12);
-    }
-    let [from_sort, _, _, from_offices] = node(sheet, from);
-    let [to_sort, _, _, to_offices] = node(sheet, to);
-    if !ends_fit(kind, from_sort, to_sort) {
-        return Some(13);
-    }
-    if kind == 2 && from == to {
-        return Some(14);
-    }
-    let in_count = offices_in_count(sheet, offices);
-    if !in_count || !within(offices, from_offices) || !within(offices, to_offices) {
-        return Some(15);
-    }
-    if row > 0 {
-        let [kind_before, from_before, to_before, _] = edge(sheet, form, row - 1);
-        let before = (kind_before, from_before, to_before);
-        if (kind, from, to) == before {
-            return Some(16);
-        }
-        if (kind, from, to) < before {
-            return Some(17);
-        }
-    }
-    None
+    order_fault(own, (row > 0).then(|| edge(sheet, form, row - 1)), [16, 17])
 }
 
-fn ends_fit(kind: u64, from_sort: u64, to_sort: u64) -> bool {
-    let (person, category, deed, folio) = (1, 2, 3, 4);
-    match kind {
-        1 => from_sort == person && to_sort == category,
-        2 => from_sort == category && to_sort == category,
-        3 => from_sort == category && to_sort == deed,
-        4 => from_sort == category && to_sort == deed,
-        5 => from_sort == deed && to_sort == folio,
-        _ => false,
-    }
+/// 11 to 15, and whether each applies to an edge row by itself. An end that is not below
+/// n has neither type nor offices that could be wrong.
+pub fn edge_row_faults(sheet: &[u64], row: [u64; 4]) -> [(u32, bool); 5] {
+    let [kind, from, to, offices] = row;
+    let ends = [from, to].map(|end| (end < sheet[2]).then(|| node(sheet, end)));
+    let [from_sort, to_sort] = ends.map(|end| end.map(|row| row[0]));
+    let outside = |end: Option<[u64; 4]>| end.is_some_and(|row| !within(offices, row[3]));
+    [
+        (11, !(1..=5).contains(&kind)),
+        (12, ends.contains(&None)),
+        (13, !ends_fit(kind, from_sort, to_sort)),
+        (14, kind == 2 && from == to),
+        (15, !offices_in_count(sheet, offices) || ends.into_iter().any(outside)),
+    ]
+}
+
+/// kind, and the types of its ends: 1 person, 2 category, 3 deed, 4 folio
+const KINDS: [[u64; 3]; 5] = [[1, 1, 2], [2, 2, 2], [3, 2, 3], [4, 2, 3], [5, 3, 4]];
+
+/// Of a kind that there is not, whether they fit any.
+fn ends_fit(kind: u64, from_sort: Option<u64>, to_sort: Option<u64>) -> bool {
+    let known = KINDS.iter().any(|own| own[0] == kind);
+    let mut kinds = KINDS.iter().filter(|own| own[0] == kind || !known);
+    kinds.any(|&[_, from, to]| {
+        from_sort.is_none_or(|sort| sort == from) && to_sort.is_none_or(|sort| sort == to)
+    })
 }
 
 /// A sum of the offices' marks, not 0, within the office count.

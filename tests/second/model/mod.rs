@@ -1,8 +1,10 @@
 //! What a sheet is and what it means, from the documents alone: the independent
 //! program that everything else here asks. It reads and judges words and bytes,
-//! answers the ten questions, looks up, joins and takes out, removes an edge, and
-//! reads and writes listings. Nothing of it knows the trial program, or chance.
+//! answers the ten questions, looks up, joins and takes out, removes an edge, tells
+//! where a row stands or would stand, adds one, and reads and writes listings. Nothing
+//! of it knows the trial program, or chance.
 
+pub mod addition;
 pub mod answer;
 pub mod bits;
 pub mod closure;
@@ -16,6 +18,7 @@ pub mod lookup;
 pub mod marks;
 pub mod office;
 pub mod place;
+pub mod position;
 pub mod reach;
 pub mod redundant;
 pub mod removal;

@@ -1,12 +1,15 @@
-//! A book of named questions, lookups, joins, takings out and listings: what each
-//! asks, and literally what the document says of it.
+//! A book of named questions, lookups, joins, takings out, listings, searches and
+//! additions: what each asks, and literally what the document says of it.
 
 use crate::generate::inquiry::Inquiry;
 use crate::model::answer::{ANSWER, JOINT, LISTED, WITNESS};
 use crate::model::limits::WORD;
 use crate::model::lookup::Wanted;
+use crate::model::position::{Key, Table};
 use crate::model::sheet::*;
-use crate::trial::operation::{called, Way, JOIN, LOOKUP, READ_LISTING, TAKE_OUT, WRITE_LISTING};
+use crate::trial::operation::{
+    adding, called, finding, Way, JOIN, LOOKUP, READ_LISTING, TAKE_OUT, WRITE_LISTING,
+};
 
 #[derive(Clone, Debug)]
 pub enum Says {
@@ -25,6 +28,10 @@ pub enum Says {
     Joined(Vec<u32>, [u32; 2]),
     /// a listing
     Typed(String),
+    /// whether a row stands, and where it does or would
+    Stands(bool, u32),
+    /// the sheet with a row more, and where the row stands
+    Added(Vec<u32>, u32),
 }
 
 impl Says {
@@ -43,6 +50,8 @@ impl Says {
             Says::Written(words) => (counted(words.len()), bytes_of(words)),
             Says::Spelt(words) => (counted(WORD * words.len()), bytes_of(words)),
             Says::Typed(text) => (counted(text.len()), text.as_bytes().to_vec()),
+            Says::Stands(there, row) => ([0, 0, 0, u32::from(*there), *row, 0, 0], Vec::new()),
+            Says::Added(words, row) => ([0, 0, 0, *row, words.len() as u32, 0, 0], bytes_of(words)),
         }
     }
 }
@@ -326,5 +335,53 @@ impl Book {
         let without = format!("{name} not written, without room");
         self.lent(&without, WRITE_LISTING, &words, 0, says.clone());
         self.lent(&format!("{name} not written, with room"), WRITE_LISTING, &words, 80, says);
+    }
+
+    /// Whether the row stands, and where it does or would.
+    pub fn stands(&mut self, name: &str, words: &[u32], table: Table, key: Key, says: (bool, u32)) {
+        let name = format!("{name}: {key:?}");
+        self.add(&name, finding(table), words, &key, Says::Stands(says.0, says.1));
+    }
+
+    /// number and row of the sheet
+    pub fn not_searched(&mut self, name: &str, words: &[u32], table: Table, says: (u32, u32)) {
+        let says = Says::Refused(says.0, 1, says.1);
+        self.add(name, finding(table), words, &[1, 11, 0], says);
+    }
+
+    fn adds(&mut self, name: &str, words: &[u32], what: (Table, Row), room: usize, says: Says) {
+        let (table, row) = what;
+        self.add(&format!("{name}: {row:?}"), adding(table), words, &row, says);
+        if let Some(asked) = self.asked.last_mut() {
+            asked.room = room;
+        }
+    }
+
+    /// The sheet with the row, which stands at this place of it; with just enough room,
+    /// with more and with too little.
+    pub fn added(&mut self, name: &str, sheet: &Sheet, what: (Table, Row), says: (&Sheet, u32)) {
+        let (before, after) = (sheet.words(), says.0.words());
+        let (length, short) = (after.len(), Says::Refused(25, 0, 0));
+        let says = Says::Added(after, says.1);
+        let mut add = |room: usize, how: &str, says: &Says| {
+            self.adds(&format!("{name}, {how}"), &before, what, room, says.clone());
+        };
+        add(length, "exactly enough room", &says);
+        add(length + 1, "one word to spare", &says);
+        add(length - 1, "one word short", &short);
+        add(0, "no room", &short);
+    }
+
+    /// number, sheet, row; whatever the room
+    pub fn not_added(
+        &mut self,
+        name: &str,
+        words: &[u32],
+        what: (Table, Row),
+        says: (u32, u32, u32),
+    ) {
+        let says = Says::Refused(says.0, says.1, says.2);
+        self.adds(&format!("{name}, without room"), words, what, 0, says.clone());
+        self.adds(&format!("{name}, with room"), words, what, words.len() + 4, says);
     }
 }

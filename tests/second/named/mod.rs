@@ -2,6 +2,8 @@
 //! is asked as well, and a disagreement between the two is a failure. `checks` and
 //! `rows` are about the checks, and a `Book` has what is asked by all others.
 
+pub mod addition_refusals;
+pub mod additions;
 pub mod book;
 pub mod checks;
 pub mod join_refusals;
@@ -11,6 +13,7 @@ pub mod listings;
 pub mod lookups;
 pub mod memberships;
 pub mod paths;
+pub mod positions;
 pub mod question_refusals;
 pub mod questions;
 pub mod redundant;

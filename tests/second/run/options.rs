@@ -1,6 +1,7 @@
 //! The command line.
 
 use crate::cases::plan::Counts;
+use crate::run::seeds::Seeds;
 use crate::trial::scope::Scope;
 
 pub const USAGE: &str = "usage:
@@ -10,6 +11,8 @@ pub const USAGE: &str = "usage:
   second --benchmark [--only OPERATIONS] -- COMMAND ARGS..
   second --seeds FOLDER [--seed N]
   second --texts FOLDER [--seed N]
+  second --lines FOLDER [--seed N]
+  second --rows FOLDER [--seed N]
   second --self-test";
 
 const COUNTS: Counts = Counts {
@@ -20,6 +23,8 @@ const COUNTS: Counts = Counts {
     joins: 10_000,
     ways: 4_200,
     listings: 27_000,
+    additions: 6_400,
+    built: 188,
     removals: 5_000,
 };
 
@@ -35,9 +40,8 @@ pub struct Options {
     pub patience: u64,
     /// So many generated cases at least; how far it is goes to standard error.
     pub long: bool,
-    /// A folder for what a fuzzer begins with: files, or texts of listings.
-    pub seeds: Option<String>,
-    pub texts: Option<String>,
+    /// What a fuzzer begins with, and the folder for it.
+    pub seeds: Option<(Seeds, String)>,
     pub self_test: bool,
     /// Times instead of comparisons.
     pub benchmark: bool,
@@ -54,7 +58,6 @@ impl Options {
             patience: 300,
             long: false,
             seeds: None,
-            texts: None,
             self_test: false,
             benchmark: false,
             command: Vec::new(),
@@ -74,20 +77,25 @@ impl Options {
                 "--only" => operations(&mut options.only, words.next())?,
                 "--case" => options.case = Some(number(&word, words.next())?),
                 "--patience" => options.patience = number(&word, words.next())?,
-                "--seeds" => options.seeds = words.next(),
-                "--texts" => options.texts = words.next(),
+                "--seeds" => options.seeds = folder(Seeds::Files, words.next()),
+                "--texts" => options.seeds = folder(Seeds::Texts, words.next()),
+                "--lines" => options.seeds = folder(Seeds::Lines, words.next()),
+                "--rows" => options.seeds = folder(Seeds::Rows, words.next()),
                 "--self-test" => options.self_test = true,
                 "--benchmark" => options.benchmark = true,
                 "--" => options.command = words.by_ref().collect(),
                 _ => return Err(format!("not understood: {word}")),
             }
         }
-        let seeds = options.seeds.is_some() || options.texts.is_some();
-        if options.command.is_empty() && !options.self_test && !seeds {
+        if options.command.is_empty() && !options.self_test && options.seeds.is_none() {
             return Err("no command that starts the trial program".to_string());
         }
         Ok(options)
     }
+}
+
+fn folder(seeds: Seeds, word: Option<String>) -> Option<(Seeds, String)> {
+    word.map(|folder| (seeds, folder))
 }
 
 fn number<T: std::str::FromStr>(option: &str, word: Option<String>) -> Result<T, String> {

@@ -1,7 +1,10 @@
 //! Files for a fuzzer to begin with. Of what the counter is asked: office or rule,
 //! kind, person, deed, folio and the room in bytes, a word each, and the file. Of the
-//! listings: the room in words, a word, and the text.
+//! listings: the room in words, a word, and the text. Of their lines: the line, without
+//! its line feed. Of rows searched and added: the row's four words and the room in
+//! words, a word each, and the sheet.
 
+use std::collections::BTreeSet;
 use std::fs;
 use std::io;
 use std::ops::Range;
@@ -10,9 +13,11 @@ use std::path::Path;
 use crate::cases::plan::{Counts, Plan};
 use crate::model::answer::WITNESS;
 use crate::model::limits::WORD;
+use crate::model::listing::lines;
 use crate::model::sheet::bytes_of;
 use crate::run::tally::Tally;
-use crate::trial::operation::{way_of, Way, READ_LISTING};
+use crate::trial::expect::row_of;
+use crate::trial::operation::{table_of, way_of, Way, READ_LISTING};
 use crate::trial::request::Request;
 
 /// The random ones of them, and how many may be long: a fuzzer is slow on those.
@@ -23,57 +28,96 @@ const MOST_LONG: usize = 12;
 /// Longer texts than this are far over the limits, and no seeds.
 const MOST_TEXT: usize = 32_000;
 
-/// What the counter is asked of a file.
-pub fn files(seed: u64, folder: &str) -> Tally {
-    let plan = Plan::new(seed, Counts { ways: RANDOM, ..Counts::default() });
-    let own = plan.before_ways()..plan.before_listings();
-    told(folder, write_all(&plan, own, Path::new(folder), of_counter))
+/// What the counter is asked of a file, what is read as a listing, each line of it, and
+/// rows that are searched and added.
+#[derive(Clone, Copy)]
+pub enum Seeds {
+    Files,
+    Texts,
+    Lines,
+    Rows,
 }
 
-/// What is read as a listing.
-pub fn texts(seed: u64, folder: &str) -> Tally {
-    let plan = Plan::new(seed, Counts { listings: RANDOM, ..Counts::default() });
-    let own = plan.before_listings()..plan.before_removals();
-    told(folder, write_all(&plan, own, Path::new(folder), of_listing))
-}
-
-fn told(folder: &str, written: io::Result<usize>) -> Tally {
+/// So many random cases of one kind, and no other kind is drawn. Lines need none: what can
+/// be wrong with a line is in the texts that are not random.
+pub fn write(sort: Seeds, seed: u64, folder: &str) -> Tally {
+    let counts = match sort {
+        Seeds::Files => Counts { ways: RANDOM, ..Counts::default() },
+        Seeds::Texts => Counts { listings: RANDOM, ..Counts::default() },
+        Seeds::Lines => Counts::default(),
+        Seeds::Rows => Counts { additions: RANDOM, ..Counts::default() },
+    };
+    let plan = Plan::new(seed, counts);
+    let numbers = match sort {
+        Seeds::Files => plan.before_ways()..plan.before_listings(),
+        Seeds::Texts | Seeds::Lines => plan.before_listings()..plan.before_additions(),
+        Seeds::Rows => plan.before_additions()..plan.before_built(),
+    };
+    let seeds_of = match sort {
+        Seeds::Files => of_counter,
+        Seeds::Texts => of_listing,
+        Seeds::Lines => of_lines,
+        Seeds::Rows => of_row,
+    };
+    let written = write_all(&plan, numbers, folder, seeds_of);
     let mut tally = Tally::default();
     tally.test(&format!("seeds in {folder}: {written:?}"), written.is_ok_and(|count| count > 0));
     tally
 }
 
+/// Each once, named by its case and its place among that case's seeds.
 fn write_all(
     plan: &Plan,
     numbers: Range<usize>,
-    folder: &Path,
-    seed_of: fn(&Request) -> Option<Vec<u8>>,
+    folder: &str,
+    seeds_of: fn(&Request) -> Vec<Vec<u8>>,
 ) -> io::Result<usize> {
-    let (mut count, mut long) = (0, 0);
+    let (mut seen, mut long) = (BTreeSet::new(), 0);
     for number in numbers {
-        let Some(bytes) = seed_of(&plan.case(number).request) else {
-            continue;
-        };
-        long += usize::from(bytes.len() > LONG);
-        if bytes.len() <= LONG || long <= MOST_LONG {
-            fs::write(folder.join(format!("{number:06}")), bytes)?;
-            count += 1;
+        for (at, bytes) in seeds_of(&plan.case(number).request).into_iter().enumerate() {
+            long += usize::from(bytes.len() > LONG);
+            if (bytes.len() <= LONG || long <= MOST_LONG) && !seen.contains(&bytes) {
+                fs::write(Path::new(folder).join(format!("{number:06}-{at}")), &bytes)?;
+                seen.insert(bytes);
+            }
         }
     }
-    Ok(count)
+    Ok(seen.len())
 }
 
-fn of_counter(request: &Request) -> Option<Vec<u8>> {
-    let (way, question) = way_of(request.operation)?;
+fn of_counter(request: &Request) -> Vec<Vec<u8>> {
+    let Some((Way::Counter, question)) = way_of(request.operation) else {
+        return Vec::new();
+    };
     let [first, a, b, c, d, _] = request.numbers;
     let [kind, person, deed, folio] = if question == WITNESS { [a, b, c, d] } else { [0, a, b, c] };
     let room = (WORD * request.out_len) as u32;
-    let mut bytes = bytes_of(&[first, kind, person, deed, folio, room]);
-    bytes.extend(&request.first);
-    (way == Way::Counter).then_some(bytes)
+    vec![after(&[first, kind, person, deed, folio, room], &request.first)]
 }
 
-fn of_listing(request: &Request) -> Option<Vec<u8>> {
-    let own = request.operation == READ_LISTING && request.first.len() <= MOST_TEXT;
-    own.then(|| [bytes_of(&[request.out_len as u32]), request.first.clone()].concat())
+fn of_listing(request: &Request) -> Vec<Vec<u8>> {
+    let own = is_text(request).then(|| after(&[request.out_len as u32], &request.first));
+    own.into_iter().collect()
+}
+
+/// Those of long texts are like one another.
+fn of_lines(request: &Request) -> Vec<Vec<u8>> {
+    let bare = |line: &[u8]| line.strip_suffix(b"\n").unwrap_or(line).to_vec();
+    let own = is_text(request) && request.first.len() <= LONG;
+    own.then(|| lines(&request.first).map(bare)).into_iter().flatten().collect()
+}
+
+fn of_row(request: &Request) -> Vec<Vec<u8>> {
+    let [first, second, third, offices] = row_of(request);
+    let numbers = [first, second, third, offices, request.out_len as u32];
+    let own = table_of(request.operation).map(|_| after(&numbers, &request.first));
+    own.into_iter().collect()
+}
+
+fn is_text(request: &Request) -> bool {
+    request.operation == READ_LISTING && request.first.len() <= MOST_TEXT
+}
+
+fn after(numbers: &[u32], bytes: &[u8]) -> Vec<u8> {
+    [&bytes_of(numbers), bytes].concat()
 }

@@ -15,7 +15,9 @@ use crate::model::sheet::{bytes_of, is_full, words_of};
 use crate::model::survey::*;
 use crate::run::tally::Tally;
 use crate::trial::expect::expect;
-use crate::trial::operation::{READ_LISTING, WRITE_LISTING};
+use crate::trial::operation::{
+    ADD_EDGE, ADD_NODE, FIND_EDGE, FIND_NODE, READ_LISTING, WRITE_LISTING,
+};
 
 pub fn run(tally: &mut Tally) {
     for (operation, title) in OPERATIONS {
@@ -25,8 +27,22 @@ pub fn run(tally: &mut Tally) {
     }
     for shape in SHAPES {
         random_order(tally, shape);
+        added(tally, shape);
     }
     times(tally);
+}
+
+/// With its first person and then its first edge again, the sheet is the full one. The
+/// node's edge is missing at first, and every end goes up.
+fn added(tally: &mut Tally, shape: Shape) {
+    let full = words_of(&request(FIND_NODE, shape).first);
+    let edge = request(ADD_EDGE, shape);
+    let node = request(ADD_NODE, shape);
+    let with_node = expect(&node).output[..MOST_WORDS - 4].to_vec();
+    tally.test(
+        &format!("benchmark of rows added, {shape:?}: the node, then the edge"),
+        bytes_of(&with_node) == edge.first && expect(&edge).output == full,
+    );
 }
 
 /// The lines that are read are not those that are written, one by one.
@@ -41,11 +57,11 @@ fn random_order(tally: &mut Tally, shape: Shape) {
 fn requests(tally: &mut Tally, operation: u32, shape: Shape, name: &str) {
     let request = request(operation, shape);
     let words = match operation {
-        READ_LISTING => expect(&request).output,
+        READ_LISTING | ADD_EDGE => expect(&request).output,
         _ => words_of(&request.first),
     };
     tally.test(&format!("{name}: the sheet is valid"), judge_words(&words) == ACCEPTED);
-    tally.test(&format!("{name}: the sheet is full"), is_full(&words));
+    tally.test(&format!("{name}: the sheet is full"), is_full(&words) || operation == ADD_NODE);
     let bare = expect(&bare(&request));
     let at_once = if operation == READ_LISTING { [40, 0, 0] } else { [2, 1, 0] };
     tally.test(&format!("{name}: a wrong start is refused"), bare.reply[..3] == at_once);
@@ -75,6 +91,11 @@ fn wanted(operation: u32, shape: Shape) -> (u32, u32, u32) {
         READ_LISTING => (0, 0, MOST_WORDS as u32),
         // The same lines in another order.
         WRITE_LISTING => (0, 0, request(READ_LISTING, shape).first.len() as u32),
+        FIND_NODE => (0, 1, MOST_NODES as u32 - 1),
+        FIND_EDGE => (0, 1, MOST_EDGES as u32 - 1),
+        // The first person's edge is missing.
+        ADD_NODE => (0, 0, MOST_WORDS as u32 - 4),
+        ADD_EDGE => (0, 0, MOST_WORDS as u32),
         _ => (0, 0, 0),
     }
 }

@@ -2,7 +2,7 @@
 //! cases of the checks are made.
 
 use crate::cases::plan::{Counts, Plan};
-use crate::cases::removals::ASKED;
+use crate::cases::{built, removals};
 use crate::generate::make;
 use crate::generate::random::Random;
 use crate::goals::coverage::{needed, Cell, Coverage};
@@ -204,9 +204,12 @@ fn tallies(tally: &mut Tally) {
 fn repeatable_cases(tally: &mut Tally) {
     repeatable(tally, "case", Plan::before_questions, |checks| Counts { checks, ..NONE });
     for total in [0, 1, 99, 100, 101, 1_000_000] {
-        let Counts { checks, questions, surveys, lookups, joins, ways, listings, removals } =
-            Counts::of_long_run(total);
-        let all = [checks, questions, surveys, lookups, joins, ways, listings, ASKED * removals];
+        let counts = Counts::of_long_run(total);
+        let Counts { checks, questions, surveys, lookups, joins, ways, .. } = counts;
+        let Counts { listings, additions, built, removals, .. } = counts;
+        let sheets = [built::ASKED * built, removals::ASKED * removals];
+        let series = [questions, surveys, lookups, joins, ways, listings, additions];
+        let all: Vec<usize> = series.into_iter().chain(sheets).chain([checks]).collect();
         let enough =
             all.iter().sum::<usize>() >= total && all.iter().all(|&some| some > 0 || total == 0);
         tally.test(&format!("a long run of {total}"), enough);

@@ -41,7 +41,7 @@ pub fn run(tally: &mut Tally) {
     patterns(tally);
     missed_goals(tally);
     selftest::named::run(tally, "listings", &named::listings::all(), Plan::before_listings);
-    repeatable(tally, "listing", Plan::before_removals, |listings| Counts { listings, ..NONE });
+    repeatable(tally, "listing", Plan::before_additions, |listings| Counts { listings, ..NONE });
     made_cases(tally);
     distinguished(tally);
 }
@@ -255,7 +255,7 @@ fn missed_goals(tally: &mut Tally) {
 fn made_cases(tally: &mut Tally) {
     let plan = Plan::new(5, Counts { listings: 400, ..NONE });
     let all: Vec<Case> =
-        (plan.before_listings()..plan.before_removals()).map(|number| plan.case(number)).collect();
+        (plan.before_listings()..plan.before_additions()).map(|number| plan.case(number)).collect();
     let long = all.iter().filter(|case| lines(&case.request.first).count() > MOST_LINES);
     let long = long.filter(|case| case.request.operation == READ_LISTING).count();
     tally.test(&format!("{long} texts of more lines than a sheet has rows"), long <= 12);
@@ -277,9 +277,9 @@ fn distinguished(tally: &mut Tally) {
     let plan = Plan::new(1, Counts { listings: CASES, ..NONE });
     let first = plan.before_listings() + named::listings::all().len();
     let quick = first + tours::QUICK;
-    let slow = plan.before_removals() - CASES;
+    let slow = plan.before_additions() - CASES;
     let case = |number: usize| plan.case(number);
-    let cases: Vec<Case> = (first..quick).chain(slow..plan.before_removals()).map(case).collect();
+    let cases: Vec<Case> = (first..quick).chain(slow..plan.before_additions()).map(case).collect();
     told_apart(tally, &cases, misread::lines::WRONG.iter(), ENOUGH);
     told_apart(tally, &cases, misread::listings::WRONG.iter(), ENOUGH);
     told_apart(tally, &cases, misread::typings::WRONG.iter(), ENOUGH);

@@ -3,6 +3,7 @@
 //! sheets worked out by hand and with paths counted out; the cases have to be
 //! repeatable, and have to tell each misreading from the right answer.
 
+pub mod additions;
 pub mod benchmark;
 pub mod checks;
 pub mod counted;
@@ -32,6 +33,7 @@ pub fn run() -> Tally {
     joins::run(&mut tally);
     ways::run(&mut tally);
     listings::run(&mut tally);
+    additions::run(&mut tally);
     removals::run(&mut tally);
     benchmark::run(&mut tally);
     tally

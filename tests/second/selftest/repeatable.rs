@@ -12,6 +12,8 @@ pub const NONE: Counts = Counts {
     joins: 0,
     ways: 0,
     listings: 0,
+    additions: 0,
+    built: 0,
     removals: 0,
 };
 

@@ -1,6 +1,7 @@
 //! What the trial program has to reply to a request, word for word, from what the
 //! model says.
 
+use crate::model::addition::add;
 use crate::model::answer::{answer, is_question, Answer, Refusal};
 use crate::model::counter::by_counter;
 use crate::model::join::join;
@@ -8,17 +9,21 @@ use crate::model::judge::{judge_bytes, judge_words, Verdict};
 use crate::model::limits::WORD;
 use crate::model::listing;
 use crate::model::lookup::{lookup, Wanted};
+use crate::model::position::{search, Table};
 use crate::model::sheet::{words_of, Row};
 use crate::model::take_out::take_out;
 use crate::trial::operation::{
-    way_of, Way, CHECK_BYTES, CHECK_WORDS, JOIN, LOOKUP, READ_LISTING, TAKE_OUT, UNKNOWN,
-    WRITE_LISTING,
+    finding, table_of, way_of, Way, CHECK_BYTES, CHECK_WORDS, JOIN, LOOKUP, READ_LISTING, TAKE_OUT,
+    UNKNOWN, WRITE_LISTING,
 };
 use crate::trial::request::{Expected, Request};
 
 pub fn expect(request: &Request) -> Expected {
     if let Some((way, question)) = way_of(request.operation) {
         return told(request, outcome(request, way, question));
+    }
+    if let Some(table) = table_of(request.operation) {
+        return told(request, of_row(request, table));
     }
     let (first, second) = (words_of(&request.first), words_of(&request.second));
     let (numbers, room) = (&request.numbers, request.out_len);
@@ -63,7 +68,22 @@ pub fn outcome(request: &Request, way: Way, question: u32) -> Result<Answer, Ref
     }
 }
 
-/// The identity that a lookup names.
+/// A row searched or added.
+fn of_row(request: &Request, table: Table) -> Result<Answer, Refusal> {
+    let words = words_of(&request.first);
+    match request.operation == finding(table) {
+        true => search(table, wanted(request), &words),
+        false => add(table, row_of(request), &words, request.out_len),
+    }
+}
+
+/// The row that is to be added.
+pub fn row_of(request: &Request) -> Row {
+    let [first, second, third, offices, ..] = request.numbers;
+    [first, second, third, offices]
+}
+
+/// The identity that a lookup names, or what a search does.
 pub fn wanted(request: &Request) -> Wanted {
     let [sort, number, variant, ..] = request.numbers;
     [sort, number, variant]

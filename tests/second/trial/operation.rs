@@ -2,6 +2,7 @@
 //! the others have numbers of their own.
 
 use crate::model::answer::{is_question, LISTED, WITNESS};
+use crate::model::position::{Table, TABLES};
 
 pub const CHECK_WORDS: u32 = 0;
 pub const LOOKUP: u32 = 11;
@@ -10,9 +11,13 @@ pub const TAKE_OUT: u32 = 13;
 pub const CHECK_BYTES: u32 = 20;
 pub const READ_LISTING: u32 = 30;
 pub const WRITE_LISTING: u32 = 31;
+pub const FIND_NODE: u32 = 32;
+pub const FIND_EDGE: u32 = 33;
+pub const ADD_NODE: u32 = 34;
+pub const ADD_EDGE: u32 = 35;
 
 /// Some that there are not.
-pub const NO_OPERATIONS: [u32; 8] = [24, 25, 26, 27, 28, 29, 32, u32::MAX];
+pub const NO_OPERATIONS: [u32; 8] = [24, 25, 26, 27, 28, 29, 36, u32::MAX];
 
 /// What the trial program says of an operation that it does not have.
 pub const UNKNOWN: u32 = u32::MAX;
@@ -29,9 +34,30 @@ pub fn called(operation: u32) -> String {
 pub fn writes(operation: u32) -> bool {
     match way_of(operation) {
         Some((_, question)) => question == WITNESS,
-        None if matches!(operation, READ_LISTING | WRITE_LISTING) => true,
+        None if matches!(operation, READ_LISTING | WRITE_LISTING | ADD_NODE | ADD_EDGE) => true,
         None => (WITNESS..=TAKE_OUT).contains(&operation) && operation != LISTED,
     }
+}
+
+/// The operation that searches this table.
+pub fn finding(table: Table) -> u32 {
+    match table {
+        Table::Nodes => FIND_NODE,
+        Table::Edges => FIND_EDGE,
+    }
+}
+
+/// The operation that adds a row to this table.
+pub fn adding(table: Table) -> u32 {
+    match table {
+        Table::Nodes => ADD_NODE,
+        Table::Edges => ADD_EDGE,
+    }
+}
+
+/// The table that one of these four is about.
+pub fn table_of(operation: u32) -> Option<Table> {
+    TABLES.into_iter().find(|&table| [finding(table), adding(table)].contains(&operation))
 }
 
 /// Another way to questions 1 to 3: of an opened sheet, or by the counter's

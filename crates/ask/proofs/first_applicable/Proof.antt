@@ -13,14 +13,14 @@ use Rattle.ask.proofs.first_applicable.Tie as tie
 first-passing-requires : tie.Need-first-passing-requires
 first-passing-requires c κs = search needs
 
-cast-at : tie.Need-cast-at
-cast-at c = search needs
-
 mul-told : tie.Need-mul-told
 mul-told c = search needs
 
 array-read-told : tie.Need-array-read-told
-array-read-told c = search needs
+array-read-told c = omega (arith, c .before .first-passing .ensures .met (c .if1 .taken), c .before .before .pre .1)
+
+cast-told : tie.Need-cast-told
+cast-told c = search needs
 
 add-told : tie.Need-add-told
 add-told c = search needs
@@ -44,9 +44,9 @@ first-applicable-spec =
     tie.close
     (tie.spec
     first-passing-requires
-    cast-at
     mul-told
     array-read-told
+    cast-told
     add-told
     told-requires
     returns

@@ -1,8 +1,8 @@
 -- `ask::first_passing` meets its contract. The loop's invariant: no office passed has what is wanted.
 -- Assumes nothing.
 use Prim.Native.Nat.{ℕ, _-_, _<_, _≤_}
-use mathlib.Core.Bool.{false}
-use mathlib.Core.Path.{_≡_, sym, _∙_}
+use mathlib.Core.Bool.{false, true≢false}
+use mathlib.Core.Path.{_≡_, refl, sym, _∙_}
 use native.Mathlib.Omega.{arith}
 use lib.ListN.{getD}
 use borrow.Author.Count.{below-more}
@@ -12,16 +12,13 @@ use Rattle.ask.proofs.first_passing.Statement.{statement}
 use Rattle.ask.proofs.first_passing.Tie as tie
 
 abbrev Inv-loop : tie.InvT-loop
-Inv-loop n want rs i₀ i = (i ≤ n) × ((j : ℕ) → j < i → passing want (getD rs j 0) ≡ false)
+Inv-loop n want rs all i₀ i = (i ≤ n) × ((j : ℕ) → j < i → passing want (getD rs j 0) ≡ false)
 
 abbrev μ-loop : tie.MeasureT-loop
-μ-loop n want rs i₀ i = n - i
+μ-loop n want rs all i₀ i = n - i
 
 loop-holds : tie.Need-loop-holds Inv-loop μ-loop
 loop-holds c = (search needs, λ i l. absurd (omega arith))
-
-cast-at : tie.Need-cast-at Inv-loop μ-loop
-cast-at c = omega (arith, c .loop-test .taken)
 
 mul-passes : tie.Need-mul-passes Inv-loop μ-loop
 mul-passes c = search needs
@@ -34,7 +31,11 @@ passes-requires c κs = search needs
 
 returns : tie.Need-returns Inv-loop μ-loop
 returns c = let L = c .before .before .before .loop in
-    record { most = omega (arith, L .inv .0); before = L .inv .1; found = λ h. sym (c .before .passes .ensures) ∙ c .if1 .taken }
+    record {
+      first = record { most = L .inv .0; before = L .inv .1; found = λ h. sym (c .before .passes .ensures) ∙ c .if1 .taken };
+      met = λ e. c .before .before .loop-test .taken;
+      missed = λ e. absurd (true≢false e);
+    }
 
 add-i : tie.Need-add-i Inv-loop μ-loop
 add-i c = omega arith
@@ -48,7 +49,11 @@ loop-again c = let L = c .before .before .before .loop in
 
 returns-2 : tie.Need-returns-2 Inv-loop μ-loop
 returns-2 c = let L = c .before .loop in
-    record { most = omega arith; before = λ i l. L .inv .1 i (omega arith); found = λ h. absurd (omega arith) }
+    record {
+      first = record { most = omega arith; before = λ i l. L .inv .1 i (omega arith); found = λ h. absurd (omega arith) };
+      met = λ e. absurd (true≢false (sym e));
+      missed = λ e. refl;
+    }
 
 pub first-passing-spec : {M : Type 1} → statement M
 first-passing-spec =
@@ -57,7 +62,6 @@ first-passing-spec =
     Inv-loop
     μ-loop
     loop-holds
-    cast-at
     mul-passes
     array-read-passes
     passes-requires

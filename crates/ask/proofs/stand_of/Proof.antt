@@ -4,6 +4,7 @@ use mathlib.Core.Path.{sym, _∙_}
 use native.Mathlib.Omega.{arith}
 use borrow.Author.Needs.{needs}
 use Rattle.sheet.proofs.Forming.{nodes-of}
+use Rattle.question.proofs.Seeking.{sought-in}
 use Rattle.question.proofs.Telling.{fits-office}
 use Rattle.ask.proofs.Standing.{stand-none, stand-made}
 use Rattle.ask.proofs.stand_of.Statement.{statement}
@@ -26,9 +27,17 @@ places-of-requires c κs = let P = c .before .before .before .before .pre in (no
 unknown-of-requires : tie.Need-unknown-of-requires
 unknown-of-requires c κs = search needs
 
+cast-t10 : tie.Need-cast-t10
+cast-t10 c = let P = c .before .before .before .before .before .before .before .pre in
+    omega (arith, sought-in _ _ _ _ _ _ _ (c .before .before .places-of .ensures .person-at), nodes-of _ (P .0) _ (P .1) .header .nodes)
+
+cast-t11 : tie.Need-cast-t11
+cast-t11 c = let P = c .before .before .before .before .before .before .before .before .pre in
+    omega (arith, sought-in _ _ _ _ _ _ _ (c .before .before .before .places-of .ensures .folio-at), nodes-of _ (P .0) _ (P .1) .header .nodes)
+
 returns-2 : tie.Need-returns-2
-returns-2 c = let P = c .before .before .before .before .before .before .pre in
-    stand-made _ (P .0) _ (P .1) (c .before .before .before .before .before .before .args .q) (sym (c .before .before .before .before .bad-office .ensures) ∙ c .before .before .before .if1 .left) _ (c .before .before .seat-at .ensures) _ (c .before .places-of .ensures) _ (c .unknown-of .ensures)
+returns-2 c = let P = c .before .before .before .before .before .before .before .before .pre in
+    stand-made _ (P .0) _ (P .1) (c .before .before .before .before .before .before .before .before .args .q) (sym (c .before .before .before .before .before .before .bad-office .ensures) ∙ c .before .before .before .before .before .if1 .left) _ (c .before .before .before .before .seat-at .ensures) _ (c .before .before .before .places-of .ensures) _ (c .before .before .unknown-of .ensures)
 
 pub stand-of-spec : {M : Type 1} → statement M
 stand-of-spec =
@@ -39,4 +48,6 @@ stand-of-spec =
     seat-at-requires
     places-of-requires
     unknown-of-requires
+    cast-t10
+    cast-t11
     returns-2)

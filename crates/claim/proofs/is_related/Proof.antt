@@ -1,62 +1,69 @@
--- `claim::is_related` meets its contract. The loop's invariant: no row passed is the relation's.
+-- `claim::is_related` meets its contract: a relation is seen exactly if the edge row between the rows of its ends stands and counts.
 -- Assumes nothing.
-use Prim.Native.Nat.{ℕ, _-_, _<_, _≤_}
-use mathlib.Core.Bool.{false}
-use mathlib.Core.Path.{_≡_, sym, _∙_}
-use native.Mathlib.Omega.{arith}
-use borrow.Author.Count.{below-more}
+use borrow.Author.Tests.{not-true, not-false}
+use Rattle.claim.proofs.Listing.{own-edges, edge-there, not-from, not-to, not-edge, edge-counts}
 use borrow.Author.Needs.{needs}
-use Rattle.claim.proofs.Listing.{related-by, related-none}
-use Rattle.claim.specs.Listed.{rowOf}
 use Rattle.claim.proofs.is_related.Statement.{statement}
 use Rattle.claim.proofs.is_related.Tie as tie
 
-abbrev Inv-loop : tie.InvT-loop
-Inv-loop sheet edges h seat kind a b n j₀ j = (j ≤ n) × ((i : ℕ) → i < j → rowOf sheet edges seat kind a b i ≡ false)
+find-row-requires : tie.Need-find-row-requires
+find-row-requires c κs = search needs
 
-abbrev μ-loop : tie.MeasureT-loop
-μ-loop sheet edges h seat kind a b n j₀ j = n - j
+returns : tie.Need-returns
+returns c = let S = c .before .before .before .before .before in
+    not-from _ _ _ _ (S .pre) _ (S .args .a) (S .args .b) _ (c .before .before .find-row .ensures) (not-true _ (c .if1 .taken))
 
-cast-n : tie.Need-cast-n Inv-loop μ-loop
-cast-n c = search needs
+find-row-requires-2 : tie.Need-find-row-requires-2
+find-row-requires-2 c κs = search needs
 
-loop-holds : tie.Need-loop-holds Inv-loop μ-loop
-loop-holds c = (search needs, λ i l. absurd (omega arith))
+returns-2 : tie.Need-returns-2
+returns-2 c = let S = c .before .before .before .before .before .before .before .before in
+    not-to _ _ _ _ (S .pre) _ (S .args .a) (S .args .b) _ (c .before .before .find-row2 .ensures) (not-true _ (c .if2 .taken))
 
-is-row-of-requires : tie.Need-is-row-of-requires Inv-loop μ-loop
-is-row-of-requires c κs = let S = c .before .before .before .before .before in
-    (S .pre .formed, S .pre .seated, c .loop-test .taken)
+cast-named : tie.Need-cast-named
+cast-named c = search needs
 
-returns : tie.Need-returns Inv-loop μ-loop
-returns c = let S = c .before .before .before .before .before .before .before in
-    related-by _ _ _ _ (S .pre) _ _ _ _ (c .before .before .loop-test .taken) (sym (c .before .is-row-of .ensures) ∙ c .if1 .taken)
+cast-named-2 : tie.Need-cast-named-2
+cast-named-2 c = search needs
 
-add-j : tie.Need-add-j Inv-loop μ-loop
-add-j c = omega arith
+named-requires : tie.Need-named-requires
+named-requires c κs = search needs
 
-loop-less : tie.Need-loop-less Inv-loop μ-loop
-loop-less c = omega arith
+find-row-requires-3 : tie.Need-find-row-requires-3
+find-row-requires-3 c κs = own-edges _ _ _ _ (c .before .before .before .before .before .before .before .before .before .before .before .pre)
 
-loop-again : tie.Need-loop-again Inv-loop μ-loop
-loop-again c = let L = c .before .before .before .loop in
-    (omega arith, below-more _ _ (L .inv .1) (sym (c .before .is-row-of .ensures) ∙ c .if1 .left))
+returns-3 : tie.Need-returns-3
+returns-3 c =
+    let S = c .before .before .before .before .before .before .before .before .before .before .before .before .before .before in
+    not-edge _ _ _ _ (S .pre) _ (S .args .a) (S .args .b) _ _ (c .before .before .before .before .before .before .before .before .before .before .before .find-row .ensures) (not-false _ (c .before .before .before .before .before .before .before .before .before .if1 .left)) (c .before .before .before .before .before .before .before .before .find-row2 .ensures) (not-false _ (c .before .before .before .before .before .before .if2 .left)) _ (c .before .before .before .named .ensures) _ (c .before .before .find-row3 .ensures)
+    (not-true _ (c .if3 .taken))
 
-returns-2 : tie.Need-returns-2 Inv-loop μ-loop
-returns-2 c = let S = c .before .before .before .before .before in
-    let L = c .before .loop in
-    related-none _ _ _ _ (S .pre) _ _ _ (λ i l. L .inv .1 i (omega arith))
+edge-at-requires : tie.Need-edge-at-requires
+edge-at-requires c κs = let S = c .before .before .before .before .before .before .before .before .before .before .before .before .before .before in
+    (S .pre .formed .edges .room, edge-there _ _ _ _ (S .pre) _ _ (c .before .before .find-row3 .ensures) (not-false _ (c .if3 .left)) .0)
+
+counts-requires : tie.Need-counts-requires
+counts-requires c κs = c .before .before .before .before .before .before .before .before .before .before .before .before .before .before .before .pre .seated
+
+returns-4 : tie.Need-returns-4
+returns-4 c =
+    let S = c .before .before .before .before .before .before .before .before .before .before .before .before .before .before .before .before in
+    edge-counts _ _ _ _ (S .pre) _ (S .args .a) (S .args .b) _ _ (c .before .before .before .before .before .before .before .before .before .before .before .before .before .find-row .ensures) (not-false _ (c .before .before .before .before .before .before .before .before .before .before .before .if1 .left)) (c .before .before .before .before .before .before .before .before .before .before .find-row2 .ensures) (not-false _ (c .before .before .before .before .before .before .before .before .if2 .left)) _ (c .before .before .before .before .before .named .ensures) _ (c .before .before .before .before .find-row3 .ensures)
+    (not-false _ (c .before .before .if3 .left)) _ _ (c .before .edge-at .ensures) (c .counts .ensures)
 
 pub is-related-spec : {M : Type 1} → statement M
 is-related-spec =
     tie.close
     (tie.spec
-    Inv-loop
-    μ-loop
-    cast-n
-    loop-holds
-    is-row-of-requires
+    find-row-requires
     returns
-    add-j
-    loop-less
-    loop-again
-    returns-2)
+    find-row-requires-2
+    returns-2
+    cast-named
+    cast-named-2
+    named-requires
+    find-row-requires-3
+    returns-3
+    edge-at-requires
+    counts-requires
+    returns-4)

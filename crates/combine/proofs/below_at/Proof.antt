@@ -2,11 +2,11 @@
 -- Assumes nothing.
 use mathlib.Core.Path.{_≡_, sym, ap₂, subst, _∙_}
 use Rattle.tables.specs.Key.{belowKey}
-use Rattle.sheet.specs.declared.Node.{Node}
-use Rattle.sheet.specs.Rows.{nodeKey}
+use Rattle.sheet.specs.declared.Cells.{Cells}
+use Rattle.sheet.specs.Rows.{rowKey}
 use Rattle.sheet.specs.declared.Half.{Half}
 use Rattle.sheet.specs.Named.{rowAt}
-use Rattle.sheet.proofs.Reading.{node-room, row-in}
+use Rattle.sheet.proofs.Reading.{row-in}
 use Rattle.combine.proofs.Reading.{nodes-below}
 use borrow.Author.Needs.{needs}
 use Rattle.combine.proofs.below_at.Statement.{statement}
@@ -15,15 +15,15 @@ use Rattle.combine.proofs.below_at.Tie as tie
 enum-told : tie.Need-enum-told
 enum-told c = search needs
 
-node-at-requires : tie.Need-node-at-requires
-node-at-requires c κs = let s = c .before .before .before .before in node-room _ _ _ (s .pre .0) _ (row-in _ _ (s .pre .0) _ _ _ (c .enum-told .given .1) (s .pre .1))
+cells-at-requires : tie.Need-cells-at-requires
+cells-at-requires c κs = let s = c .before .before .before .before in (s .pre .0 .nodes, row-in _ _ (s .pre .0) _ _ _ (c .enum-told .given .1) (s .pre .1))
 
-node-at-requires-2 : tie.Need-node-at-requires-2
-node-at-requires-2 c κs = let s = c .before .before .before .before .before in
-    node-room _ _ _ (s .pre .2) _ (row-in _ _ (s .pre .2) _ _ _ (c .before .enum-told .given .1) (s .pre .3))
+cells-at-requires-2 : tie.Need-cells-at-requires-2
+cells-at-requires-2 c κs = let s = c .before .before .before .before .before in
+    (s .pre .2 .nodes, row-in _ _ (s .pre .2) _ _ _ (c .before .enum-told .given .1) (s .pre .3))
 
-below-node-requires : tie.Need-below-node-requires
-below-node-requires c κs = search needs
+below-row-requires : tie.Need-below-row-requires
+below-row-requires c κs = search needs
 
 enum-told-2 : tie.Need-enum-told-2
 enum-told-2 c = search needs
@@ -34,7 +34,7 @@ below-named-requires c κs = let s = c .before .before .before .before in
     (s .pre .0, row-in _ _ (s .pre .0) _ _ _ p (s .pre .1), s .pre .2, row-in _ _ (s .pre .2) _ _ _ p (s .pre .3))
 
 returns : tie.Need-returns
-returns c = nodes-below _ _ _ _ _ _ (c .before .before .before .enum-told .given .1) (c .below-node .ensures ∙ ap₂ (λ (x y : Node). belowKey (nodeKey x) (nodeKey y)) (c .before .before .node-at .ensures) (c .before .node-at2 .ensures))
+returns c = nodes-below _ _ _ _ _ _ (c .before .before .before .enum-told .given .1) (c .below-row .ensures ∙ ap₂ (λ (x y : Cells). belowKey (rowKey x) (rowKey y)) (c .before .before .cells-at .ensures) (c .before .cells-at2 .ensures))
 
 returns-2 : tie.Need-returns-2
 returns-2 c = let s = c .before .before .before .before .before in
@@ -45,9 +45,9 @@ below-at-spec =
     tie.close
     (tie.spec
     enum-told
-    node-at-requires
-    node-at-requires-2
-    below-node-requires
+    cells-at-requires
+    cells-at-requires-2
+    below-row-requires
     enum-told-2
     below-named-requires
     returns

@@ -40,6 +40,12 @@ returns c = let s = c .before .before .before in sym (ap (λ (r : Rule). makes r
 returns-2 : tie.Need-returns-2
 returns-2 c = let s = c .before .before .before in sym (ap (λ (r : Rule). makes r (s .args .x) (s .args .y)) (c .before .rule2 .given .1))
 
+enum-told : tie.Need-enum-told
+enum-told c = search needs
+
+returns-3 : tie.Need-returns-3
+returns-3 c = let s = c .before .before in sym (ap (λ (r : Rule). makes r (s .args .x) (s .args .y)) (c .enum-told .given .1))
+
 pub made-spec : {M : Type 1} → statement M
 made-spec =
     tie.close
@@ -50,5 +56,7 @@ made-spec =
     enum-known-rule-2
     div-result
     rem-result
+    enum-told
     returns
-    returns-2)
+    returns-2
+    returns-3)

@@ -2,6 +2,7 @@
 -- Assumes nothing.
 use mathlib.Core.Path.{ap, _∙_}
 use Rattle.sheet.specs.declared.Cells.{Cells}
+use Rattle.sheet.proofs.Reading.{half-formed}
 use Rattle.combine.specs.Halves.{spelled}
 use Rattle.combine.proofs.Reading.{taken-first, taken-second}
 use borrow.Author.Needs.{needs}
@@ -9,7 +10,7 @@ use Rattle.combine.proofs.taken.Statement.{statement}
 use Rattle.combine.proofs.taken.Tie as tie
 
 cells-at-requires : tie.Need-cells-at-requires
-cells-at-requires c κs = let P = c .before .before .before .before .before .before .before .pre in (P .0, P .2 (c .if1 .taken))
+cells-at-requires c κs = let s = c .before .before .before .before .before .before .before in (half-formed _ _ (s .pre .0) (s .args .half), s .pre .2 (c .if1 .taken))
 
 under-requires : tie.Need-under-requires
 under-requires c κs = search needs
@@ -19,7 +20,7 @@ returns c = let s = c .before .before .before .before .before .before .before .b
     c .under .ensures ∙ ap (λ (x : Cells). spelled (s .args .firstplaces .now) x (s .args .to .marks)) (c .before .cells-at .ensures) ∙ taken-first _ _ _ _ _ _ _ _ _ (c .before .before .if1 .taken)
 
 cells-at-requires-2 : tie.Need-cells-at-requires-2
-cells-at-requires-2 c κs = let P = c .before .before .before .before .before .before .before .pre in (P .1, P .3 (c .if1 .left))
+cells-at-requires-2 c κs = let s = c .before .before .before .before .before .before .before in (half-formed _ _ (s .pre .1) (s .args .half), s .pre .3 (c .if1 .left))
 
 under-requires-2 : tie.Need-under-requires-2
 under-requires-2 c κs = search needs

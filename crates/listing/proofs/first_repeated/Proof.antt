@@ -27,7 +27,7 @@ line-with-requires : tie.Need-line-with-requires Inv-loop μ-loop
 line-with-requires c κs = c .before .before .before .before .before .before .pre
 
 returns : tie.Need-returns Inv-loop μ-loop
-returns c = stands-here _ _ _ _ _ (c .before .before .before .before .loop .inv) (omega arith) (is-repeated (linesSaid (c .before .before .before .before .before .before .before .before .args .text .now)) _ _ (omega arith) _ (line-taken _ _ _ (c .before .before .before .before .loop .inv .came) _ (c .before .before .take-line .ensures)) _ (c .before .line-with .ensures) (c .if1 .taken))
+returns c = stands-here _ _ _ _ _ (c .before .before .before .before .before .loop .inv) (omega arith) (is-repeated (linesSaid (c .before .before .before .before .before .before .before .before .before .args .text .now)) _ _ (omega arith) _ (line-taken _ _ _ (c .before .before .before .before .before .loop .inv .came) _ (c .before .before .before .take-line .ensures)) _ (c .before .before .line-with .ensures) (c .if1 .taken))
 
 add-i : tie.Need-add-i Inv-loop μ-loop
 add-i c = omega arith
@@ -36,7 +36,7 @@ loop-less : tie.Need-loop-less Inv-loop μ-loop
 loop-less c = omega arith
 
 loop-again : tie.Need-loop-again Inv-loop μ-loop
-loop-again c = through-next _ _ _ _ (c .before .before .before .before .loop .inv) _ (c .before .before .take-line .ensures) (not-repeated (linesSaid (c .before .before .before .before .before .before .before .before .args .text .now)) _ _ (omega arith) _ (line-taken _ _ _ (c .before .before .before .before .loop .inv .came) _ (c .before .before .take-line .ensures)) _ (c .before .line-with .ensures) (c .if1 .left))
+loop-again c = through-next _ _ _ _ (c .before .before .before .before .before .loop .inv) _ (c .before .before .before .take-line .ensures) (not-repeated (linesSaid (c .before .before .before .before .before .before .before .before .before .args .text .now)) _ _ (omega arith) _ (line-taken _ _ _ (c .before .before .before .before .before .loop .inv .came) _ (c .before .before .before .take-line .ensures)) _ (c .before .before .line-with .ensures) (c .if1 .left))
 
 returns-2 : tie.Need-returns-2 Inv-loop μ-loop
 returns-2 c = stands-nowhere _ _ _ _ _ (c .before .loop .inv) (omega arith)

@@ -14,13 +14,13 @@ refused-at-requires : tie.Need-refused-at-requires
 refused-at-requires c κs = search needs
 
 returns : tie.Need-returns
-returns c = refuses-text _ _ _ _ (refused-42 _ _ (c .before .before .before .before .before .before .before .pre .0) _ (c .before .before .first-repeated .ensures) (c .before .if1 .taken)) (λ z. omega (arith, z)) (c .refused-at .ensures)
+returns c = refuses-text _ _ _ _ (refused-42 _ _ (c .before .before .before .before .before .before .before .pre .0) _ (c .before .before .first-repeated .ensures .first) (c .before .before .first-repeated .ensures .met (c .before .if1 .taken))) (λ z. omega (arith, z)) (c .refused-at .ensures)
 
 refused-at-requires-2 : tie.Need-refused-at-requires-2
 refused-at-requires-2 c κs = search needs
 
 returns-2 : tie.Need-returns-2
-returns-2 c = refuses-text _ _ _ _ (refused-own _ _ (c .before .before .before .before .before .before .before .before .before .pre .0) _ (c .before .before .before .before .first-repeated .ensures) (c .before .before .before .if1 .left) (c .before .if2 .taken)) (c .before .if2 .taken) (c .refused-at2 .ensures)
+returns-2 c = refuses-text _ _ _ _ (refused-own _ _ (c .before .before .before .before .before .before .before .before .before .pre .0) _ (c .before .before .before .before .first-repeated .ensures .first) (omega (arith, c .before .before .before .before .first-repeated .ensures .missed (c .before .before .before .if1 .left))) (c .before .if2 .taken)) (c .before .if2 .taken) (c .refused-at2 .ensures)
 
 first-lacking-requires : tie.Need-first-lacking-requires
 first-lacking-requires c κs = search needs
@@ -29,7 +29,7 @@ refused-at-requires-3 : tie.Need-refused-at-requires-3
 refused-at-requires-3 c κs = search needs
 
 returns-3 : tie.Need-returns-3
-returns-3 c = refuses-text _ _ _ _ (refused-43 _ _ (c .before .before .before .before .before .before .before .before .before .before .before .pre .0) _ (c .before .before .before .before .before .before .first-repeated .ensures) (c .before .before .before .before .before .if1 .left) (c .before .before .before .if2 .left) _ (c .before .before .first-lacking .ensures) (c .before .if3 .taken)) (λ z. omega (arith, z)) (c .refused-at3 .ensures)
+returns-3 c = refuses-text _ _ _ _ (refused-43 _ _ (c .before .before .before .before .before .before .before .before .before .before .before .pre .0) _ (c .before .before .before .before .before .before .first-repeated .ensures .first) (omega (arith, c .before .before .before .before .before .before .first-repeated .ensures .missed (c .before .before .before .before .before .if1 .left))) (c .before .before .before .if2 .left) _ (c .before .before .first-lacking .ensures .first) (c .before .before .first-lacking .ensures .met (c .before .if3 .taken))) (λ z. omega (arith, z)) (c .refused-at3 .ensures)
 
 read-good-requires : tie.Need-read-good-requires
 read-good-requires c κs = search needs
@@ -38,7 +38,7 @@ same-length : tie.Need-same-length
 same-length c = search needs
 
 returns-4 : tie.Need-returns-4
-returns-4 c = read-good-done _ _ (c .before .before .before .before .before .before .before .before .before .before .before .before .before .before .pre .0) (c .before .before .before .before .before .before .if2 .left) _ (c .before .before .before .before .before .before .before .before .before .first-repeated .ensures) (c .before .before .before .before .before .before .before .before .if1 .left) _ (c .before .before .before .before .before .first-lacking .ensures) (c .before .before .before .before .if3 .left) _ _ (c .before .before .before .before .before .before .before .before .before .before .before .before .before .before .pre .1) _ _ _ (c .before .before .read-good .ensures)
+returns-4 c = read-good-done _ _ (c .before .before .before .before .before .before .before .before .before .before .before .before .before .before .pre .0) (c .before .before .before .before .before .before .if2 .left) _ (c .before .before .before .before .before .before .before .before .before .first-repeated .ensures .first) (omega (arith, c .before .before .before .before .before .before .before .before .before .first-repeated .ensures .missed (c .before .before .before .before .before .before .before .before .if1 .left))) _ (c .before .before .before .before .before .first-lacking .ensures .first) (omega (arith, c .before .before .before .before .before .first-lacking .ensures .missed (c .before .before .before .before .if3 .left))) _ _ (c .before .before .before .before .before .before .before .before .before .before .before .before .before .before .pre .1) _ _ _ (c .before .before .read-good .ensures)
 
 pub read-sorted-spec : {M : Type 1} → statement M
 read-sorted-spec =

@@ -8,14 +8,14 @@ use Rattle.listing.proofs.row_of.Tie as tie
 four-of-requires : tie.Need-four-of-requires
 four-of-requires c κs = search needs
 
-place-of-requires : tie.Need-place-of-requires
-place-of-requires c κs = search needs
+place-in-order-requires : tie.Need-place-in-order-requires
+place-in-order-requires c κs = search needs
 
 cast-result : tie.Need-cast-result
 cast-result c = search needs
 
 returns : tie.Need-returns
-returns c = rw (c .before .four-of .ensures) at (place-four (c .before .before .before .before .args .rows .now) (c .before .before .before .before .args .order .now) _ _ _ (c .place-of .ensures))
+returns c = rw (c .before .four-of .ensures) at (place-four (c .before .before .before .before .args .rows .now) (c .before .before .before .before .args .order .now) _ _ _ (c .place-in-order .ensures))
 
 pub row-of-spec : {M : Type 1} → statement M
-row-of-spec = tie.close (tie.spec four-of-requires place-of-requires cast-result returns)
+row-of-spec = tie.close (tie.spec four-of-requires place-in-order-requires cast-result returns)

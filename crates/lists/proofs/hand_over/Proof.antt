@@ -4,6 +4,7 @@ use Rattle.lists.specs.Handed.{missing, short, written}
 use Rattle.sheet.specs.Refusals.{refuse}
 use native.Mathlib.Omega.{arith}
 use borrow.Author.Needs.{needs}
+use borrow.Author.Tests.{not-true, not-false}
 use Rattle.lists.proofs.hand_over.Statement.{statement}
 use Rattle.lists.proofs.hand_over.Tie as tie
 
@@ -12,19 +13,22 @@ refused-by-requires c κs = search needs
 
 returns : tie.Need-returns
 unfolding refuse
-returns c = rw (c .refused-by .ensures) (missing (c .before .if1 .taken))
+returns c = rw (c .refused-by .ensures) (missing (not-true _ (c .before .if1 .taken)))
+
+cast-size : tie.Need-cast-size
+cast-size c = search needs
 
 refused-by-requires-2 : tie.Need-refused-by-requires-2
 refused-by-requires-2 c κs = search needs
 
 returns-2 : tie.Need-returns-2
 unfolding refuse
-returns-2 c = rw (c .refused-by2 .ensures) (short (c .before .before .if1 .left) (c .before .if2 .taken))
+returns-2 c = rw (c .refused-by2 .ensures) (short (not-false _ (c .before .before .before .if1 .left)) (c .before .if2 .taken))
 
 copy-requires : tie.Need-copy-requires
 copy-requires c κs =
-    let S = c .before .before .before .before .before in
-    (S .pre (c .before .before .if1 .left), omega (arith, c .before .if2 .left))
+    let S = c .before .before .before .before .before .before .before in
+    (S .pre (not-false _ (c .before .before .before .if1 .left)), omega (arith, c .before .if2 .left))
 
 told-requires : tie.Need-told-requires
 told-requires c κs = search needs
@@ -33,7 +37,7 @@ same-length : tie.Need-same-length
 same-length c = search needs
 
 returns-3 : tie.Need-returns-3
-returns-3 c = rw (c .told .ensures, c .before .before .before .copy .ensures) (written (c .before .before .before .before .before .before .if1 .left) (c .before .before .before .before .before .if2 .left))
+returns-3 c = rw (c .told .ensures, c .before .before .before .copy .ensures) (written (not-false _ (c .before .before .before .before .before .before .before .if1 .left)) (c .before .before .before .before .before .if2 .left))
 
 pub hand-over-spec : {M : Type 1} → statement M
 hand-over-spec =
@@ -41,6 +45,7 @@ hand-over-spec =
     (tie.spec
     refused-by-requires
     returns
+    cast-size
     refused-by-requires-2
     returns-2
     copy-requires

@@ -10,8 +10,8 @@ seek-requires c κs = search needs
 
 returns : tie.Need-returns
 returns c =
-    let S = c .before .before .before in
-    known-by _ _ _ _ _ _ (S .pre .1) (c .before .seek .ensures)
+    let S = c .before .before in
+    known-by _ _ _ _ _ _ (S .pre .1) (c .seek .ensures)
 
 pub is-known-spec : {M : Type 1} → statement M
 is-known-spec = tie.close (tie.spec seek-requires returns)

@@ -71,7 +71,7 @@ returns c =
     let L = c .before .loop in
     let S = c .before .before .before .before in
     let m : L .n ≤ length (L .list) = omega (arith, L .inv .1, L .inv .2, S .pre .4, S .pre .0 .header .nodes) in
-    some m (picked-all _ _ _ _ _ _ _ _ (L .inv .0) (c .loop-test .left) (L .inv .3))
+    some _ m (picked-all _ _ _ _ _ _ _ _ (L .inv .0) (c .loop-test .left) (L .inv .3))
 
 pub numbers-of-spec : {M : Type 1} → statement M
 numbers-of-spec =

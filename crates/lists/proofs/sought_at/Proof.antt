@@ -2,7 +2,6 @@
 -- Assumes nothing.
 use Rattle.lists.proofs.Handing.{finds-room, handed-shows}
 use mathlib.Core.Path.{refl}
-use native.Mathlib.Omega.{arith}
 use borrow.Author.Needs.{needs}
 use Rattle.lists.proofs.sought_at.Statement.{statement}
 use Rattle.lists.proofs.sought_at.Tie as tie
@@ -25,7 +24,7 @@ same-length : tie.Need-same-length
 same-length c = search needs
 
 returns : tie.Need-returns
-returns c = handed-shows (omega arith) (c .before .before .before .before .before .before .found .ensures) (c .before .before .hand-over .ensures)
+returns c = handed-shows (c .before .before .before .before .before .before .found .ensures) (c .before .before .hand-over .ensures)
 
 pub sought-at-spec : {M : Type 1} → statement M
 sought-at-spec =

@@ -1,8 +1,8 @@
 -- `lookup::look_up` meets its contract: each part is the empty one, or the four words of a row that has the identity, where they stand.
 -- Assumes nothing.
-use Rattle.lookup.proofs.Looking.{StandingRow, has-none, gives-none, gives-first, gives-second, both-accepted, first-row, second-row}
+use Rattle.lookup.proofs.Looking.{StandingRow, told-has, gives-none, gives-first, gives-second, both-accepted, first-row, second-row}
 use Rattle.sheet.specs.Parts.{lent}
-use Rattle.sheet.specs.Rows.{nodeKey}
+use Rattle.sheet.specs.Rows.{rowKey}
 use native.Mathlib.Omega.{arith}
 use borrow.Author.Needs.{needs}
 use Rattle.lookup.proofs.look_up.Statement.{statement}
@@ -28,14 +28,24 @@ returns c =
     let A = c .before .before .before .before .before .before .before .args in
     gives-none (lent (A .first)) (lent (A .second)) _ _ _ (c .before .before .before .look-fault .ensures) (c .before .before .before .before .named .ensures) (c .before .if1 .taken)
 
-word-place-requires : tie.Need-word-place-requires
-word-place-requires c κs = both-accepted _ _ _ _ (c .before .before .look-fault .ensures) (c .if1 .left) .0
+find-identity-requires : tie.Need-find-identity-requires
+find-identity-requires c κs = both-accepted _ _ _ _ (c .before .before .look-fault .ensures) (c .if1 .left) .0
+
+-- the row in the first sheet
+here : (k : tie.After-struct-known2) → StandingRow (k .before .before .before .before .before .before .before .before .before .args .first .now) (rowKey (k .before .before .before .before .before .before .named .result)) (k .before .before .find-identity .result .row)
+here k = first-row _ _ _ _ (k .before .before .before .before .before .look-fault .ensures) _ (k .before .before .before .if1 .left) (k .before .before .find-identity .ensures) (k .before .if2 .taken)
+
+mul-i : tie.Need-mul-i
+mul-i c = omega (arith, here c .few)
+
+add-i : tie.Need-add-i
+add-i c = omega (arith, here c .few)
 
 add-e : tie.Need-add-e
-add-e c = omega (arith, first-row _ _ _ _ (c .before .before .before .before .look-fault .ensures) _ (c .before .before .if1 .left) (c .before .word-place .ensures) (c .if2 .taken) .room)
+add-e c = omega (arith, here c .few)
 
 mul-result : tie.Need-mul-result
-mul-result c = search needs
+mul-result c = omega (arith, here c .few)
 
 sub-result-2 : tie.Need-sub-result-2
 sub-result-2 c = search needs
@@ -44,28 +54,31 @@ part-result-start-2 : tie.Need-part-result-start-2
 part-result-start-2 c = search needs
 
 part-result-end-2 : tie.Need-part-result-end-2
-part-result-end-2 c = first-row _ _ _ _ (c .before .before .before .before .look-fault .ensures) _ (c .before .before .if1 .left) (c .before .word-place .ensures) (c .if2 .taken) .room
+part-result-end-2 c = here c .room
 
 returns-2 : tie.Need-returns-2
 returns-2 c =
-    let A = c .before .before .before .before .before .before .before .before .before .args in
-    let R = c .before .before .before .before .before .look-fault .ensures in
-    let Z = c .before .before .before .if1 .left in
-    gives-first (lent (A .first)) (lent (A .second)) _ _ _ R (c .before .before .before .before .before .before .named .ensures) _ Z
-    (first-row _ _ _ _ R _ Z (c .before .before .word-place .ensures) (c .before .if2 .taken))
+    let A = c .before .before .before .before .before .before .before .before .before .before .args in
+    gives-first (lent (A .first)) (lent (A .second)) _ _ _ (c .before .before .before .before .before .before .look-fault .ensures) (c .before .before .before .before .before .before .before .named .ensures) _ (c .before .before .before .before .if1 .left) (here (c .before))
 
-word-place-requires-2 : tie.Need-word-place-requires-2
-word-place-requires-2 c κs = both-accepted _ _ _ _ (c .before .before .before .before .look-fault .ensures) (c .before .before .if1 .left) .1
+find-identity-requires-2 : tie.Need-find-identity-requires-2
+find-identity-requires-2 c κs = both-accepted _ _ _ _ (c .before .before .before .before .look-fault .ensures) (c .before .before .if1 .left) .1
 
 -- the row in the second sheet
-found : (k : tie.After-word-place2) → StandingRow (k .before .before .before .before .before .before .before .before .before .args .second .now) (nodeKey (k .before .before .before .before .before .before .named .result)) (k .word-place2 .result)
-found k = second-row _ _ _ _ (k .before .before .before .before .before .look-fault .ensures) _ _ (k .before .before .before .if1 .left) (k .before .before .word-place .ensures) (k .before .if2 .left) (k .word-place2 .ensures)
+there : (k : tie.After-struct-known3) → StandingRow (k .before .before .before .before .before .before .before .before .before .before .args .second .now) (rowKey (k .before .before .before .before .before .before .before .named .result)) (k .before .find-identity2 .result .row)
+there k = second-row _ _ _ _ (k .before .before .before .before .before .before .look-fault .ensures) _ _ (k .before .before .before .before .if1 .left) (k .before .before .before .find-identity .ensures) (k .before .before .if2 .left) (k .before .find-identity2 .ensures)
+
+mul-j : tie.Need-mul-j
+mul-j c = omega (arith, there c .few)
+
+add-j : tie.Need-add-j
+add-j c = omega (arith, there c .few)
 
 add-f : tie.Need-add-f
-add-f c = omega (arith, found c .low)
+add-f c = omega (arith, there c .few)
 
 mul-result-2 : tie.Need-mul-result-2
-mul-result-2 c = omega (arith, found c .low)
+mul-result-2 c = omega (arith, there c .few)
 
 sub-result-3 : tie.Need-sub-result-3
 sub-result-3 c = search needs
@@ -74,15 +87,12 @@ part-result-start-3 : tie.Need-part-result-start-3
 part-result-start-3 c = search needs
 
 part-result-end-3 : tie.Need-part-result-end-3
-part-result-end-3 c = found c .room
+part-result-end-3 c = there c .room
 
 returns-3 : tie.Need-returns-3
 returns-3 c =
-    let A = c .before .before .before .before .before .before .before .before .before .before .args in
-    let R = c .before .before .before .before .before .before .look-fault .ensures in
-    let Z = c .before .before .before .before .if1 .left in
-    gives-second (lent (A .first)) (lent (A .second)) _ _ _ R (c .before .before .before .before .before .before .before .named .ensures) _ Z
-    (has-none _ _ _ (both-accepted _ _ _ _ R Z .0) (c .before .before .before .word-place .ensures) (c .before .before .if2 .left)) (found (c .before))
+    let A = c .before .before .before .before .before .before .before .before .before .before .before .args in
+    gives-second (lent (A .first)) (lent (A .second)) _ _ _ (c .before .before .before .before .before .before .before .look-fault .ensures) (c .before .before .before .before .before .before .before .before .named .ensures) _ (c .before .before .before .before .before .if1 .left) (told-has _ _ _ _ (c .before .before .before .before .find-identity .ensures) (c .before .before .before .if2 .left)) (there (c .before))
 
 pub look-up-spec : {M : Type 1} → statement M
 look-up-spec =
@@ -94,14 +104,18 @@ look-up-spec =
     part-result-start
     part-result-end
     returns
-    word-place-requires
+    find-identity-requires
+    mul-i
+    add-i
     add-e
     mul-result
     sub-result-2
     part-result-start-2
     part-result-end-2
     returns-2
-    word-place-requires-2
+    find-identity-requires-2
+    mul-j
+    add-j
     add-f
     mul-result-2
     sub-result-3

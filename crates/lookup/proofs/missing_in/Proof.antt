@@ -1,33 +1,26 @@
--- `lookup::missing_in` meets its contract: a sheet has the identity exactly if its place is before the end.
+-- `lookup::missing_in` meets its contract: a sheet has the identity exactly if the search found it.
 -- Assumes nothing.
-use Rattle.lookup.proofs.Looking.{stands-row, identity-in, has-none, found-first, found-second, found-neither}
+use Rattle.lookup.proofs.Looking.{told-has, found-first, found-second, found-neither}
 use borrow.Author.Needs.{needs}
 use Rattle.lookup.proofs.missing_in.Statement.{statement}
 use Rattle.lookup.proofs.missing_in.Tie as tie
 
-word-place-requires : tie.Need-word-place-requires
-word-place-requires c κs = search needs
+find-identity-requires : tie.Need-find-identity-requires
+find-identity-requires c κs = search needs
 
 returns : tie.Need-returns
-returns c =
-    let S = c .before .before .before .before in
-    let r = stands-row _ _ _ (S .pre .0) (c .before .word-place .ensures) (c .if1 .taken) in
-    found-first _ _ _ (identity-in _ _ (r .row) (r .inside) (r .names))
+returns c = found-first _ _ _ (told-has _ _ _ _ (c .before .find-identity .ensures) (c .if1 .taken))
 
-word-place-requires-2 : tie.Need-word-place-requires-2
-word-place-requires-2 c κs = search needs
+find-identity-requires-2 : tie.Need-find-identity-requires-2
+find-identity-requires-2 c κs = search needs
 
 returns-2 : tie.Need-returns-2
-returns-2 c =
-    let S = c .before .before .before .before .before .before in
-    let r = stands-row _ _ _ (S .pre .1) (c .before .word-place2 .ensures) (c .if2 .taken) in
-    found-second _ _ _ (identity-in _ _ (r .row) (r .inside) (r .names))
+returns-2 c = found-second _ _ _ (told-has _ _ _ _ (c .before .find-identity2 .ensures) (c .if2 .taken))
 
 returns-3 : tie.Need-returns-3
-returns-3 c =
-    let S = c .before .before .before .before .before .before in
-    found-neither _ _ _ (has-none _ _ _ (S .pre .0) (c .before .before .before .word-place .ensures) (c .before .before .if1 .left)) (has-none _ _ _ (S .pre .1) (c .before .word-place2 .ensures) (c .if2 .left))
+returns-3 c = found-neither _ _ _ (told-has _ _ _ _ (c .before .before .before .find-identity .ensures) (c .before .before .if1 .left)) (told-has _ _ _ _ (c .before .find-identity2 .ensures) (c .if2 .left))
 
 pub missing-in-spec : {M : Type 1} → statement M
 missing-in-spec =
-    tie.close (tie.spec word-place-requires returns word-place-requires-2 returns-2 returns-3)
+    tie.close
+    (tie.spec find-identity-requires returns find-identity-requires-2 returns-2 returns-3)

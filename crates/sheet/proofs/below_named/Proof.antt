@@ -1,6 +1,6 @@
 -- `sheet::below_named` meets its contract: kind, then both ends' identities.
 -- Assumes nothing.
-use Rattle.sheet.proofs.Reading.{from-room, to-room, named-below}
+use Rattle.sheet.proofs.Reading.{from-in, to-in, named-below}
 use borrow.Author.Needs.{needs}
 use Rattle.sheet.proofs.below_named.Statement.{statement}
 use Rattle.sheet.proofs.below_named.Tie as tie
@@ -11,43 +11,43 @@ edge-of-requires c κs = search needs
 edge-of-requires-2 : tie.Need-edge-of-requires-2
 edge-of-requires-2 c κs = search needs
 
-cast-node-at : tie.Need-cast-node-at
-cast-node-at c = search needs
+cast-cells-at : tie.Need-cast-cells-at
+cast-cells-at c = search needs
 
-node-at-requires : tie.Need-node-at-requires
-node-at-requires c κs = let s = c .before .before .before .before .before in
-    to-room _ _ (s .pre .0) _ _ (s .pre .1) (c .before .before .edge-of .ensures)
+cells-at-requires : tie.Need-cells-at-requires
+cells-at-requires c κs = let s = c .before .before .before .before .before in
+    (s .pre .0 .nodes, to-in _ _ (s .pre .0) _ _ (s .pre .1) (c .before .before .edge-of .ensures))
 
-cast-node-at-2 : tie.Need-cast-node-at-2
-cast-node-at-2 c = search needs
+cast-cells-at-2 : tie.Need-cast-cells-at-2
+cast-cells-at-2 c = search needs
 
-node-at-requires-2 : tie.Need-node-at-requires-2
-node-at-requires-2 c κs = let s = c .before .before .before .before .before .before .before in
-    to-room _ _ (s .pre .2) _ _ (s .pre .3) (c .before .before .before .edge-of2 .ensures)
+cells-at-requires-2 : tie.Need-cells-at-requires-2
+cells-at-requires-2 c κs = let s = c .before .before .before .before .before .before .before in
+    (s .pre .2 .nodes, to-in _ _ (s .pre .2) _ _ (s .pre .3) (c .before .before .before .edge-of2 .ensures))
 
-below-node-requires : tie.Need-below-node-requires
-below-node-requires c κs = search needs
+below-row-requires : tie.Need-below-row-requires
+below-row-requires c κs = search needs
 
-cast-node-at-3 : tie.Need-cast-node-at-3
-cast-node-at-3 c = search needs
+cast-cells-at-3 : tie.Need-cast-cells-at-3
+cast-cells-at-3 c = search needs
 
-node-at-requires-3 : tie.Need-node-at-requires-3
-node-at-requires-3 c κs = let s = c .before .before .before .before .before .before .before .before .before .before in
-    from-room _ _ (s .pre .0) _ _ (s .pre .1) (c .before .before .before .before .before .before .before .edge-of .ensures)
+cells-at-requires-3 : tie.Need-cells-at-requires-3
+cells-at-requires-3 c κs = let s = c .before .before .before .before .before .before .before .before .before .before in
+    (s .pre .0 .nodes, from-in _ _ (s .pre .0) _ _ (s .pre .1) (c .before .before .before .before .before .before .before .edge-of .ensures))
 
-cast-node-at-4 : tie.Need-cast-node-at-4
-cast-node-at-4 c = search needs
+cast-cells-at-4 : tie.Need-cast-cells-at-4
+cast-cells-at-4 c = search needs
 
-node-at-requires-4 : tie.Need-node-at-requires-4
-node-at-requires-4 c κs = let s = c .before .before .before .before .before .before .before .before .before .before .before .before in
-    from-room _ _ (s .pre .2) _ _ (s .pre .3) (c .before .before .before .before .before .before .before .before .edge-of2 .ensures)
+cells-at-requires-4 : tie.Need-cells-at-requires-4
+cells-at-requires-4 c κs = let s = c .before .before .before .before .before .before .before .before .before .before .before .before in
+    (s .pre .2 .nodes, from-in _ _ (s .pre .2) _ _ (s .pre .3) (c .before .before .before .before .before .before .before .before .edge-of2 .ensures))
 
 below-then-requires : tie.Need-below-then-requires
 below-then-requires c κs = search needs
 
 returns : tie.Need-returns
 returns c = let s = c .before .before .before .before .before .before .before .before .before .before .before .before .before .before .before .before .before .before in
-    named-below _ _ _ _ _ _ _ _ _ _ _ _ (c .before .before .before .before .before .before .before .before .before .before .before .before .before .before .before .edge-of .ensures) (c .before .before .before .before .before .before .before .before .before .before .before .before .before .before .edge-of2 .ensures) (c .before .before .before .before .before .before .before .before .before .before .before .before .node-at .ensures) (c .before .before .before .before .before .before .before .before .before .before .node-at2 .ensures) (c .before .before .before .before .before .before .before .node-at3 .ensures) (c .before .before .before .before .before .node-at4 .ensures) (c .before .before .before .before .before .before .before .before .before .below-node .ensures) (c .before .before .before .before .below-then .ensures)
+    named-below _ _ _ _ _ _ _ _ _ _ _ _ (c .before .before .before .before .before .before .before .before .before .before .before .before .before .before .before .edge-of .ensures) (c .before .before .before .before .before .before .before .before .before .before .before .before .before .before .edge-of2 .ensures) (c .before .before .before .before .before .before .before .before .before .before .before .before .cells-at .ensures) (c .before .before .before .before .before .before .before .before .before .before .cells-at2 .ensures) (c .before .before .before .before .before .before .before .cells-at3 .ensures) (c .before .before .before .before .before .cells-at4 .ensures) (c .before .before .before .before .before .before .before .before .before .below-row .ensures) (c .before .before .before .before .below-then .ensures)
 
 pub below-named-spec : {M : Type 1} → statement M
 below-named-spec =
@@ -55,14 +55,14 @@ below-named-spec =
     (tie.spec
     edge-of-requires
     edge-of-requires-2
-    cast-node-at
-    node-at-requires
-    cast-node-at-2
-    node-at-requires-2
-    below-node-requires
-    cast-node-at-3
-    node-at-requires-3
-    cast-node-at-4
-    node-at-requires-4
+    cast-cells-at
+    cells-at-requires
+    cast-cells-at-2
+    cells-at-requires-2
+    below-row-requires
+    cast-cells-at-3
+    cells-at-requires-3
+    cast-cells-at-4
+    cells-at-requires-4
     below-then-requires
     returns)

@@ -1,0 +1,41 @@
+-- `add::add_row` meets its contract: a sheet that passed the check, after the check.
+-- Assumes nothing.
+use mathlib.Core.Path.{refl}
+use Rattle.sheet.proofs.Forming.{passed-long, passed-whole}
+use Rattle.add.proofs.Showing.{row-bad, row-good}
+use borrow.Author.Needs.{needs}
+use Rattle.add.proofs.add_row.Statement.{statement}
+use Rattle.add.proofs.add_row.Tie as tie
+
+check-requires : tie.Need-check-requires
+check-requires c κs = search needs
+
+refused-requires : tie.Need-refused-requires
+refused-requires c κs = search needs
+
+returns : tie.Need-returns
+returns c = row-bad _ _ _ _ _ _ _ (c .before .before .before .check .ensures) (c .before .if1 .taken) (c .refused .ensures) refl
+
+header-of-requires : tie.Need-header-of-requires
+header-of-requires c κs = passed-long _ _ _ (c .before .before .check .ensures) (c .if1 .left)
+
+add-checked-requires : tie.Need-add-checked-requires
+add-checked-requires c κs = passed-whole _ _ _ (c .before .before .before .before .check .ensures) (c .before .before .if1 .left) _ (c .before .header-of .ensures) _ refl
+
+same-length : tie.Need-same-length
+same-length c = search needs
+
+returns-2 : tie.Need-returns-2
+returns-2 c = row-good _ _ _ _ _ _ _ (c .before .before .before .before .before .before .before .check .ensures) (c .before .before .before .before .before .if1 .left) (c .before .before .add-checked .ensures)
+
+pub add-row-spec : {M : Type 1} → statement M
+add-row-spec =
+    tie.close
+    (tie.spec
+    check-requires
+    refused-requires
+    returns
+    header-of-requires
+    add-checked-requires
+    same-length
+    returns-2)
