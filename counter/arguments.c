@@ -19,6 +19,13 @@ static bool read_second_name(const char *word, void *files)
     return strcmp(word, "-") != 0 || strcmp(file[0].name, "-") != 0;
 }
 
+static bool read_trace_name(const char *word, void *into)
+{
+    Desk *desk = into;
+    desk->trace.name = word;
+    return strcmp(word, "-") != 0 || strcmp(desk->files[0].name, "-") != 0;
+}
+
 static bool read_result_name(const char *word, void *name)
 {
     return read_name(word, name) && *word != '\0' && strcmp(word, "-") != 0;
@@ -71,6 +78,15 @@ static bool read_marks(const char *word, void *offices)
     return read_offices(word, offices);
 }
 
+static const char typed_option[] = "--text";
+
+static bool read_option(const char *word, void *typed)
+{
+    *(bool *)typed = true;
+    return strcmp(word, typed_option) == 0;
+}
+
+static const char read_twice[] = "can be read only once";
 static const char no_number[] = "is no number from 0 to 4294967295";
 static const char no_node[] = "is no node: [person|category|deed|folio] NUMBER[/VARIANT]";
 
@@ -83,7 +99,7 @@ static const struct {
 } arguments[] = {
     [SHEET] = {"FILE", read_name, offsetof(Desk, files[0].name), ""},
     [FIRST] = {"FIRST", read_name, offsetof(Desk, files[0].name), ""},
-    [SECOND] = {"SECOND", read_second_name, offsetof(Desk, files), "can be read only once"},
+    [SECOND] = {"SECOND", read_second_name, offsetof(Desk, files), read_twice},
     [LISTING] = {"LISTING", read_name, offsetof(Desk, listing.name), ""},
     [RESULT] = {"OUT", read_result_name, offsetof(Desk, asked.result), "is no file's name for the result"},
     [OFFICE] = {"OFFICE", read_any_number, offsetof(Desk, asked.office), no_number},
@@ -102,6 +118,9 @@ static const struct {
     [LINE] = {"LINE", read_name, offsetof(Desk, asked.line), ""},
     [OFFICES] = {"OFFICES", read_marks, offsetof(Desk, asked.offices),
                  "is no list of offices: numbers from 1 to 32 with commas, none twice"},
+    [TIMEOUT] = {"TIMEOUT", read_any_number, offsetof(Desk, asked.timeout), no_number},
+    [TRACE] = {"TRACE", read_trace_name, 0, read_twice},
+    [TYPED] = {typed_option, read_option, offsetof(Desk, trace.typed), "is not the option --text"},
     [NODES] = {"NODE..", NULL, 0, no_node},
 };
 
@@ -127,6 +146,17 @@ static const char *fault_of_count(const Verb *verb, size_t count)
     return count == most || count == most - verb->optional ? NULL : "has too few arguments";
 }
 
+/* The option is the last argument, but many type options first. There it is moved to its place. */
+static void move_option(const Verb *verb, char **words, size_t count)
+{
+    if (count != argument_count(verb) || verb->arguments[count - 1] != TYPED || strcmp(words[0], typed_option) != 0 ||
+        strcmp(words[count - 1], typed_option) == 0)
+        return;
+    char *option = words[0];
+    memmove(words, words + 1, (count - 1) * sizeof *words);
+    words[count - 1] = option;
+}
+
 bool read_arguments(Desk *desk, char **words)
 {
     size_t count = 0;
@@ -135,6 +165,7 @@ bool read_arguments(Desk *desk, char **words)
     const char *fault = fault_of_count(desk->verb, count);
     if (fault != NULL)
         return bad_usage(desk->verb, desk->verb->name, fault);
+    move_option(desk->verb, words, count);
     for (size_t i = 0; i < count; i++) {
         Argument argument = desk->verb->arguments[i];
         if (argument == NODES) {

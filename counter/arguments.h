@@ -12,6 +12,10 @@ size_t argument_count(const Verb *verb);
 /* Reads all the verb's arguments, up to the NULL after them, into the desk. False, and bad usage told, where one is wrong. */
 bool read_arguments(Desk *desk, char **words);
 
+/* typed.c: the number that the digits from the text's start make, and the text after them; NULL where there is no digit or the
+ * number is too great. */
+const char *after_number(const char *text, uint32_t *number);
+
 /* typed.c: whether the word is a number from 0 to 4294967295 in decimal digits and nothing else; if so, the number. */
 bool read_number(const char *word, uint32_t *number);
 

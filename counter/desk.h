@@ -3,6 +3,7 @@
 #define DESK_H
 
 #include "rows.h"
+#include "trace.h"
 
 /* The exit statuses. */
 enum { ANSWERED = 0, REFUSED = 1, BAD_USAGE = 2, UNWRITTEN = 3 };
@@ -27,13 +28,6 @@ typedef struct Text {
     size_t length;
 } Text;
 
-/* A line of it, without its line feed. */
-typedef struct Line {
-    const uint8_t *bytes;
-    size_t length;
-    bool has_line_feed;
-} Line;
-
 /* The nodes that were typed for `path`. A type of 0 was left out. */
 typedef struct TypedPath {
     size_t count;
@@ -56,6 +50,7 @@ typedef struct Asked {
     TypedPath path;
     const char *line;
     uint32_t offices; /* a sum of marks */
+    uint32_t timeout; /* in minutes */
 } Asked;
 
 /* All that a verb's function gets. The named files were read; where the verb has one FILE, the sheet has its words. */
@@ -66,6 +61,7 @@ typedef struct Desk {
     File files[FILES];
     Sheet sheet;
     Text listing;
+    Trace trace;
 } Desk;
 
 /* What an argument is. The table in arguments.c says how each is called in a usage line, and how it is read. */
@@ -88,6 +84,9 @@ typedef enum Argument {
     IDENTITY,
     LINE,
     OFFICES,
+    TIMEOUT,
+    TRACE,
+    TYPED, /* an option: TRACE is a text */
     NODES /* as many as there are, at least one; always the last */
 } Argument;
 
@@ -112,6 +111,9 @@ bool refused(Desk *desk, TormukaiRefusal refusal);
 
 /* reply.c: the same where the listing was read. The line at fault is shown. */
 bool refused_listing(Desk *desk, TormukaiListing told);
+
+/* reply.c: tells the refusal of the trace's row that was read last, or with 33 of its bytes. Returns the exit status. */
+int refuse_trace(Desk *desk, uint32_t number);
 
 /* reply.c: the same of a refusal with more facts than its number, its place and its sentence. They are told in between.
  * end_refusal returns the exit status. */
@@ -151,6 +153,9 @@ int write_and_tell(Desk *desk, const Sheet *sheet);
 /* questions.c: 'undetermined', 'granted', 'banned', 'both'. */
 const char *answer_name(uint32_t value);
 
+/* questions.c: 'granted (1)'. */
+void tell_answer(Writer *out, uint32_t value);
+
 /* One function a verb. Each returns the exit status. */
 int check(Desk *desk);
 int answer(Desk *desk);
@@ -169,6 +174,7 @@ int take(Desk *desk);
 int add(Desk *desk);
 int read_listing(Desk *desk);
 int list(Desk *desk);
+int watch(Desk *desk);
 int show(Desk *desk);
 int draw(Desk *desk);
 

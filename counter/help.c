@@ -32,15 +32,17 @@ void print_help(void)
         print_form(stdout, verb);
         printf("      %s\n", verb->summary);
     }
-    fputs("\nFILE, FIRST and SECOND are sheets' files, LISTING is a text's; '-' is standard input. OUT is the file to write.\n"
+    fputs("\nFILE, FIRST and SECOND are sheets' files, LISTING is a text's, TRACE is a duty desk's; '-' is standard input. OUT is\n"
+          "the file to write.\n"
           "OFFICE, PERSON, CATEGORY, DEED and FOLIO are numbers from 0 to 4294967295.\n"
           "RULE is 1 or grant-first, 2 or deny-first, 3 or first-applicable.\n"
-          "LINE is a line of a listing, in quotes. OFFICES are office numbers with commas, as 1,2.\n"
+          "LINE is a line of a listing, in quotes. OFFICES are office numbers with commas, as 1,2. TIMEOUT is in minutes.\n"
           "\nOptions:\n"
           "  --json     before the verb: print one JSON object instead of text\n"
           "  --help     print this, or after a verb what it tells, with an example\n"
           "  --version  print the version\n"
-          "\nExit status: 0 an answer, 1 a refusal, 2 bad usage or no listing to read, 3 the output can't be written.\n"
+          "\nExit status: 0 an answer, 1 a refusal, 2 bad usage, or a listing or trace that can't be read, 3 the output can't be\n"
+          "written.\n"
           "\nRead on: man counter, docs/COUNTER.md (each verb and its JSON), docs/RULES.md (the rules, the refusals).\n",
           stdout);
 }

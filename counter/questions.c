@@ -12,7 +12,7 @@ const char *answer_name(uint32_t value)
     return names[value];
 }
 
-static void tell_answer(Writer *out, uint32_t value)
+void tell_answer(Writer *out, uint32_t value)
 {
     tell_word(out, "answer", answer_name(value));
     say(out, " (");

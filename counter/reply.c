@@ -95,33 +95,84 @@ static void tell_note(Writer *out, const char *note)
 #define AS_TEXT(number) #number
 #define FIRST_BYTES(number) "its first " AS_TEXT(number) " bytes"
 
+static size_t shown_length(Line line)
+{
+    return line.length > SHOWN ? SHOWN : line.length;
+}
+
+static const char *note_on(Line line)
+{
+    if (line.length > SHOWN)
+        return FIRST_BYTES(SHOWN);
+    return line.has_line_feed ? NULL : "no line feed";
+}
+
 void tell_line(Writer *out, Line line)
 {
-    bool cut = line.length > SHOWN;
     say(out, ": \"");
-    tell_bytes(out, "shown", line.bytes, cut ? SHOWN : line.length);
+    tell_bytes(out, "shown", line.bytes, shown_length(line));
     say(out, "\"");
-    tell_note(out, cut ? FIRST_BYTES(SHOWN) : line.has_line_feed ? NULL : "no line feed");
+    tell_note(out, note_on(line));
+}
+
+void show_line(FILE *stream, Line line)
+{
+    const char *note = note_on(line);
+    fputs("\"", stream);
+    show_bytes(stream, line.bytes, shown_length(line));
+    fputs("\"", stream);
+    if (note != NULL)
+        fprintf(stream, " (%s)", note);
+}
+
+/* A refusal of a text's line, by its number from 0. The line is shown. */
+static int refuse_line(Desk *desk, uint32_t number, const char *file, size_t row, Line line)
+{
+    Writer *out = &desk->out;
+    begin_reply(desk);
+    begin_refusal(out, number);
+    say(out, " at ");
+    say(out, file);
+    say(out, ":");
+    say_number(out, row + 1);
+    tell_sentence(out, number, 0, row);
+    note_bytes(out, "file", file, strlen(file));
+    note_number(out, "line", row + 1);
+    tell_line(out, line);
+    return end_refusal(desk);
 }
 
 bool refused_listing(Desk *desk, TormukaiListing told)
 {
-    Writer *out = &desk->out;
-    const Text *text = &desk->listing;
     if (!has_line(told.number))
         return refused(desk, (TormukaiRefusal){told.number, told.sheet, 0});
-    begin_reply(desk);
-    begin_refusal(out, told.number);
-    say(out, " at ");
-    say(out, text->name);
-    say(out, ":");
-    say_number(out, told.row + 1);
-    tell_sentence(out, told.number, told.sheet, told.row);
-    note_bytes(out, "file", text->name, strlen(text->name));
-    note_number(out, "line", told.row + 1);
-    tell_line(out, line_at(text, told.row));
-    end_refusal(desk);
+    refuse_line(desk, told.number, desk->listing.name, told.row, line_at(&desk->listing, told.row));
     return true;
+}
+
+/* The library names no row of a trace, since it was lent one row alone. Its bytes have none. */
+static int refuse_row(Desk *desk, uint32_t number, const char *file, size_t row)
+{
+    Writer *out = &desk->out;
+    bool of_row = number != TORMUKAI_REFUSED_FILE_LENGTH;
+    begin_reply(desk);
+    begin_refusal(out, number);
+    say(out, " at ");
+    say(out, file);
+    if (of_row) {
+        say(out, " row ");
+        say_number(out, row);
+    }
+    tell_sentence(out, number, 0, of_row ? row : 0);
+    note_bytes(out, "file", file, strlen(file));
+    return end_refusal(desk);
+}
+
+int refuse_trace(Desk *desk, uint32_t number)
+{
+    const Trace *trace = &desk->trace;
+    return trace->typed ? refuse_line(desk, number, trace->name, trace->row, line_of(trace))
+                        : refuse_row(desk, number, trace->name, trace->row);
 }
 
 void end_reply(Desk *desk)

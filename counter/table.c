@@ -114,6 +114,23 @@ const Verb verbs[] = {
      "in 11 21\n"
      "grant 21 31/2\n"
      "applies 31/2 42\n"},
+    {"watch", {SHEET, TIMEOUT, TRACE, TYPED}, 1, watch, {3, 33, 50, 54, 51},
+     "the answers of a duty desk's trace, and whether each emergency was open",
+     "Tells the answer to each question of a trace, and whether its folio's emergency was open. While it is open the\n"
+     "question goes to office 2, and to office 1 where that is undetermined; else it goes to office 1 alone. A start holds\n"
+     "its folio for TIMEOUT minutes, or until an end. TRACE has rows of five words, low byte first: minute, kind (1 start,\n"
+     "2 end, 3 question), folio, person, deed; of a start and an end the last two are 0. With --text it has a row a line:\n"
+     "  MINUTE start FOLIO   MINUTE end FOLIO   MINUTE ask FOLIO PERSON DEED\n"
+     "Spaces are single, and a line feed ends each line. Where a row is refused nothing else is printed; it is named by its\n"
+     "number from 0, and a line by its number from 1.\n",
+     "joint.sheet 60 night.text --text",
+     "minute 10: folio 42, person 11, deed 31: banned (2), emergency not open\n"
+     "minute 20: folio 42, person 11, deed 31: banned (2), emergency not open\n"
+     "minute 21: folio 42, person 11, deed 31: granted (1), emergency open\n"
+     "minute 21: folio 42, person 12, deed 31: banned (2), emergency open\n"
+     "minute 50: folio 42, person 11, deed 31: granted (1), emergency open\n"
+     "minute 109: folio 42, person 11, deed 31: granted (1), emergency open\n"
+     "minute 110: folio 42, person 11, deed 31: banned (2), emergency not open\n"},
     {"show", {SHEET}, 0, show, {0},
      "every row of a sheet, in words",
      "Tells the sheet's header, and every node and edge with its row and its offices.\n",

@@ -4,9 +4,8 @@
 #include <ctype.h>
 #include <string.h>
 
-/* The number that the digits from the text's start make, and the text after them; NULL where there is no digit or the number
- * is too great. By hand, since strtoul takes spaces, signs and, where a long is longer, numbers past the 32 bits. */
-static const char *after_number(const char *text, uint32_t *number)
+/* By hand, since strtoul takes spaces, signs and, where a long is longer, numbers past the 32 bits. */
+const char *after_number(const char *text, uint32_t *number)
 {
     uint64_t read = 0;
     if (*text < '0' || *text > '9')

@@ -2,7 +2,6 @@
 #include "writer.h"
 
 #include <inttypes.h>
-#include <stdio.h>
 
 /* A string's content in JSON. Bytes from 128 on are passed through: what is told is ASCII. */
 static void put_escaped(const char *text)
@@ -72,10 +71,7 @@ void tell_word(Writer *out, const char *name, const char *word)
 
 void tell_truth(Writer *out, const char *name, bool truth)
 {
-    if (as_json(out)) {
-        begin_value(out, name);
-        fputs(truth ? "true" : "false", stdout);
-    }
+    note_truth(out, name, truth);
     say(out, truth ? "yes" : "no");
 }
 
@@ -88,21 +84,26 @@ void note_number(Writer *out, const char *name, uint64_t number)
 }
 
 /* In a JSON string the backslash is doubled. */
-static void put_bytes(const unsigned char *bytes, size_t length, const char *backslash)
+static void put_bytes(FILE *stream, const unsigned char *bytes, size_t length, const char *backslash)
 {
     for (size_t i = 0; i < length; i++) {
         if (bytes[i] < ' ' || bytes[i] > '~' || bytes[i] == '"' || bytes[i] == '\\')
-            printf("%sx%02x", backslash, bytes[i]);
+            fprintf(stream, "%sx%02x", backslash, bytes[i]);
         else
-            putchar(bytes[i]);
+            putc(bytes[i], stream);
     }
+}
+
+void show_bytes(FILE *stream, const void *bytes, size_t length)
+{
+    put_bytes(stream, bytes, length, "\\");
 }
 
 void tell_bytes(Writer *out, const char *name, const void *bytes, size_t length)
 {
     note_bytes(out, name, bytes, length);
     if (!as_json(out))
-        put_bytes(bytes, length, "\\");
+        show_bytes(stdout, bytes, length);
 }
 
 void note_bytes(Writer *out, const char *name, const void *bytes, size_t length)
@@ -110,7 +111,7 @@ void note_bytes(Writer *out, const char *name, const void *bytes, size_t length)
     if (as_json(out)) {
         begin_value(out, name);
         putchar('"');
-        put_bytes(bytes, length, "\\\\");
+        put_bytes(stdout, bytes, length, "\\\\");
         putchar('"');
     }
 }
@@ -120,6 +121,14 @@ void note_word(Writer *out, const char *name, const char *word)
     if (as_json(out)) {
         begin_value(out, name);
         put_string(word);
+    }
+}
+
+void note_truth(Writer *out, const char *name, bool truth)
+{
+    if (as_json(out)) {
+        begin_value(out, name);
+        fputs(truth ? "true" : "false", stdout);
     }
 }
 

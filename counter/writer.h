@@ -8,6 +8,7 @@
 #include <stdbool.h>
 #include <stddef.h>
 #include <stdint.h>
+#include <stdio.h>
 
 typedef struct Writer {
     bool json;
@@ -28,10 +29,14 @@ void tell_truth(Writer *out, const char *name, bool truth);
  * hexadecimal digits, so that nothing is hidden and nothing reaches a terminal but letters. */
 void tell_bytes(Writer *out, const char *name, const void *bytes, size_t length);
 
+/* The same bytes on another stream. */
+void show_bytes(FILE *stream, const void *bytes, size_t length);
+
 /* In JSON only: a fact that the text has in other words, or not at all. */
 void note_number(Writer *out, const char *name, uint64_t number);
 void note_word(Writer *out, const char *name, const char *word);
 void note_bytes(Writer *out, const char *name, const void *bytes, size_t length);
+void note_truth(Writer *out, const char *name, bool truth);
 void note_null(Writer *out, const char *name);
 void note_line_end(Writer *out);
 

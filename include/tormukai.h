@@ -5,23 +5,24 @@
  * table in C. The library is x86-64 code.
  *
  * A FILE is a sheet's bytes as they stand on disk, each word four bytes, low byte first. A SHEET is its words. A LISTING is a
- * sheet of one office as a text that people can type, one row a line. Any bytes and any words may be passed, and any numbers:
- * what is wrong with them is a refusal.
+ * sheet of one office as a text that people can type, one row a line. A TRACE is a duty desk's rows, five words each. Any bytes
+ * and any words may be passed, and any numbers: what is wrong with them is a refusal.
  *
  * A REFUSAL has the number of the table of refusals (docs/RULES.md) and a place. What is wrong with a sheet or its file, which
  * is 33, 1 to 17 and 28, has the sheet (1 where there is one sheet), and for 6 to 17 also the row's index in its table, from 0.
  * What is wrong with a line of a listing, which is 40 to 43 and there also 14, has sheet 0 and as row the line, counted from 0.
  * What is wrong with a row that is to be added, which is 6 to 9, 11 to 16 and 4, has no place: sheet 0 and row 0. So a row is
- * meant only where there is a sheet, or a line. Every other part of a refused result is 0, and nothing is written. Where
- * several numbers apply, it is the first in the table's order but for listings and additions, and each comment below names
- * them in the order in which they are tried.
+ * meant only where there is a sheet, or a line. What is wrong with a trace or a lent table, which is 50, 51, 54 and 59, has no
+ * place either. Every other part of a refused result is 0, and nothing is written. Where several numbers apply, it is the first
+ * in the table's order but for listings, additions and traces, and each comment below names them in the order in which they
+ * are tried.
  *
  * A SUCCESS has number, sheet and row 0. It writes the words (or bytes) of its result from the output's start, and leaves
  * the rest of the output as it was. An empty list is a success of count 0.
  *
  * What a caller owes: after each pointer the length of what it points to, in words or bytes. No pointer is null, also where
- * the length is 0. An output overlaps no input, and nothing else writes either while the call runs. The library keeps no
- * pointer and no state, so calls on different outputs may run at once.
+ * the length is 0. An output, and a lent table is one too, overlaps no input, and nothing else writes either while the call
+ * runs. The library keeps no pointer and no state, so calls on different outputs may run at once.
  */
 #ifndef TORMUKAI_H
 #define TORMUKAI_H
@@ -34,7 +35,7 @@ extern "C" {
 #endif
 
 /* The library's version. */
-#define TORMUKAI_VERSION "0.5.0"
+#define TORMUKAI_VERSION "0.6.0"
 
 /* The longest sheet, in words and in bytes of its file: 6 + 4 * 512 + 4 * 2048 words. */
 #define TORMUKAI_SHEET_WORDS 10246
@@ -81,6 +82,16 @@ extern "C" {
 #define TORMUKAI_LINE_BAN 8
 #define TORMUKAI_LINE_APPLIES 9
 
+/* The words of a trace's row (minute, kind, folio, person, deed), and its kinds: an emergency of the folio starts, or it ends,
+ * or the desk asks whether the person may do the deed on the folio. A start and an end have 0 for person and deed. */
+#define TORMUKAI_ROW_WORDS 5
+#define TORMUKAI_ROW_START 1
+#define TORMUKAI_ROW_END 2
+#define TORMUKAI_ROW_QUESTION 3
+
+/* The places of a watch's table, and so the most folios that are held at once. */
+#define TORMUKAI_PLACES 32
+
 /* Answers. */
 #define TORMUKAI_UNDETERMINED 0
 #define TORMUKAI_GRANTED 1
@@ -97,7 +108,8 @@ extern "C" {
 #define TORMUKAI_BAN 1
 
 /* Refusal numbers, in the order in which they are tried. Of a listing each line is tried by itself, and 43, 4 and 25 come after
- * the last line. Of a row that is to be added 4 comes after all that is wrong with the row. */
+ * the last line. Of a row that is to be added 4 comes after all that is wrong with the row. Of a trace 3 comes once more, after
+ * 17, where the sheet has no office 2; then each row is tried by itself, and one of other than five words gets 54 before 50. */
 #define TORMUKAI_REFUSED_LISTING_LINE 40
 #define TORMUKAI_REFUSED_LISTING_NUMBER 41
 #define TORMUKAI_REFUSED_LISTING_REPEATED 42
@@ -131,6 +143,10 @@ extern "C" {
 #define TORMUKAI_REFUSED_NOT_ONE_OFFICE 28
 #define TORMUKAI_REFUSED_UNION_NODES 29
 #define TORMUKAI_REFUSED_UNION_EDGES 30
+#define TORMUKAI_REFUSED_FOLIO_TWICE 59
+#define TORMUKAI_REFUSED_MINUTE 50
+#define TORMUKAI_REFUSED_TRACE_ROW 54
+#define TORMUKAI_REFUSED_HELD_FOLIOS 51
 #define TORMUKAI_REFUSED_NO_SUCH_PATH 26
 #define TORMUKAI_REFUSED_OUTPUT_TOO_SHORT 25
 
@@ -181,6 +197,39 @@ typedef struct TormukaiLine {
     uint32_t second;
     uint32_t third;
 } TormukaiLine;
+
+/* One place of a watch's table: the emergency of a folio, four words.
+ *   mark     0 where the place is empty, and then its other words mean nothing. Any other mark is that of a used place; 1 is
+ *            written.
+ *   folio    the folio that is held. Any number can be, 0 too, and one that is in no sheet.
+ *   latest   the minute of the folio's latest start row.
+ *   earlier  the latest minute below `latest` of a start row of the folio since the place was last empty; `latest` again where
+ *            there is none. In the minute of a second start the folio is open by the first alone, so one minute would not be
+ *            enough. */
+typedef struct TormukaiEmergency {
+    uint32_t mark;
+    uint32_t folio;
+    uint32_t latest;
+    uint32_t earlier;
+} TormukaiEmergency;
+
+/* The duty desk's table, which its caller keeps from row to row: 129 words, and no pointer. All zero it is the empty table, as
+ * before the first row: `TormukaiWatch watch = {0};`. It can be copied, kept in a file and compared as words.
+ *   last     the minute of the last row.
+ *   places   the folios that are held, each in one place, in no order. */
+typedef struct TormukaiWatch {
+    uint32_t last;
+    TormukaiEmergency places[TORMUKAI_PLACES];
+} TormukaiWatch;
+
+/* A refusal's number and place, or number 0 with how many answers were written. A trace can have more questions than 32 bits
+ * count. */
+typedef struct TormukaiTraceReply {
+    uint32_t number;
+    uint32_t sheet;
+    uint32_t row;
+    size_t count;
+} TormukaiTraceReply;
 
 /* The sentence of the table of refusals for a number, as "unknown person" for 21; for a number that is not in the table a
  * sentence that says so. The text is English, has no line end, and lives as long as the program. Refuses nothing.
@@ -252,7 +301,7 @@ TormukaiAnswer tormukai_sheet_answer(const uint32_t *sheet, size_t sheet_length,
                                      uint32_t deed, uint32_t folio);
 
 /* Question 2, as tormukai_joint_answer. Refuses with: 1 to 17, 27, 21, 22, 23.
- * Stack: at most 15,360 bytes. */
+ * Stack: at most 16,384 bytes. */
 TormukaiAnswer tormukai_sheet_joint_answer(const uint32_t *sheet, size_t sheet_length, uint32_t rule, uint32_t person,
                                            uint32_t deed, uint32_t folio);
 
@@ -409,6 +458,35 @@ TormukaiListing tormukai_write_listing(const uint32_t *sheet, size_t sheet_lengt
  * variant may be 0).
  * Stack: at most 512 bytes. */
 TormukaiLine tormukai_read_line(const uint8_t *line, size_t line_length);
+
+/* ---- The duty desk ---- */
+
+/* One row of the duty desk's trace, on a table that is lent. A start row of minute M holds its folio from that row on, at
+ * minutes below M + timeout, until an end row of the folio; minute and timeout are added as whole numbers, so a sum may be
+ * above 4,294,967,295. The folio's emergency is open at minute T where a start row of a minute below T holds it at T. A
+ * question goes to office 1; while the emergency of its folio is open it goes to office 2 first, and to office 1 where that is
+ * undetermined. A person, a deed or a folio that an office does not know makes it undetermined there, and is no refusal.
+ * Answers: value, of a question, 0 undetermined, 1 granted, 2 banned, 3 both; count how many offices it goes to: 0 for a start
+ * or an end, 1 for a question while its folio's emergency is not open, and 2 while it is open.
+ * Writes: the table, so that it stands for this row too. A refused row leaves the table as it was. A place whose folio was
+ * ended or has expired becomes 0, and is used again. One timeout serves all rows of a table.
+ * Refuses with: 1 to 17, 3 (at sheet 1: there is no office 2), 59 (two used places have the same folio, expired or not), 54
+ * (the row has other than five words), 50 (its minute is below the table's last), 54 (its kind is none of the three, or it is
+ * no question and has a person or a deed other than 0), 51 (a start that would make 33 folios held at its minute).
+ * Any table may be lent, also one that no rows lead to.
+ * Time: every call checks the whole sheet. tormukai_trace checks it once for all its rows.
+ * Stack: at most 18,432 bytes. */
+TormukaiAnswer tormukai_step(TormukaiWatch *watch, const uint32_t *sheet, size_t sheet_length, uint32_t timeout,
+                             const uint32_t *row, size_t row_length);
+
+/* A whole trace, rows of five words each, on an empty table of its own: what tormukai_step answers row by row.
+ * Answers: count the words written. Writes: a word for each question, in the order of the rows: 0 undetermined, 1 granted, 2
+ * banned, 3 both.
+ * Refuses with: 1 to 17, 3 (at sheet 1: there is no office 2), then row by row 50, 54, 51 as tormukai_step, but a last row
+ * that is cut short gets 54 alone; then 25. With an output of rows_length / 5 words 25 does not occur.
+ * Stack: at most 18,432 bytes. */
+TormukaiTraceReply tormukai_trace(const uint32_t *sheet, size_t sheet_length, uint32_t timeout, const uint32_t *rows,
+                                  size_t rows_length, uint32_t *out, size_t out_length);
 
 #ifdef __cplusplus
 }

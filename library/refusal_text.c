@@ -5,7 +5,7 @@
 static const char *const sentences[] = {
     [1] = "under 6 words",
     [2] = "form not 1",
-    [3] = "office count not 1 or 2",
+    [3] = "office count not 1 or 2, or no office 2 for the duty desk",
     [4] = "n above 512 or e above 2,048",
     [5] = "an offset or the length is wrong",
     [6] = "node type",
@@ -38,6 +38,10 @@ static const char *const sentences[] = {
     [41] = "a number that is 0, has a leading zero or is above 4,294,967,295",
     [42] = "a repeated row",
     [43] = "an edge whose end has no node line",
+    [50] = "minute lower than the row before",
+    [51] = "a start that would make 33 folios held",
+    [54] = "a row of a trace with an unknown kind, a nonzero spare word or not five words",
+    [59] = "a table that names a folio in two places",
 };
 
 const char *tormukai_refusal_text(uint32_t number)

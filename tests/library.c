@@ -292,6 +292,126 @@ static void large_listing(void)
     say_listing("read_listing, 513 nodes", read_text(text, length, LENGTH(out)), 1);
 }
 
+/* ---- The duty desk: the joint sheet, of which office 1 bans person 11 from deed 31 on folio 42, and office 2 grants it ---- */
+
+enum { START = TORMUKAI_ROW_START, END = TORMUKAI_ROW_END, QUESTION = TORMUKAI_ROW_QUESTION, TIMEOUT = 60 };
+static TormukaiWatch table;
+
+/* The answer, the table's last minute, and each of its places that is not all zero with its number and its four words. */
+static void say_step(const char *name, TormukaiAnswer a)
+{
+    printf("%s: %" PRIu32 " %" PRIu32 " %" PRIu32, name, a.number, a.sheet, a.row);
+    printf(" %" PRIu32 " %" PRIu32 "; %" PRIu32, a.value, a.count, table.last);
+    for (size_t i = 0; i < TORMUKAI_PLACES; i++) {
+        const TormukaiEmergency *place = &table.places[i];
+        if (place->mark == 0 && place->folio == 0 && place->latest == 0 && place->earlier == 0)
+            continue;
+        printf("; %zu: %" PRIu32 " %" PRIu32, i, place->mark, place->folio);
+        printf(" %" PRIu32 " %" PRIu32, place->latest, place->earlier);
+    }
+    printf("\n");
+}
+
+static TormukaiAnswer step(uint32_t minute, uint32_t kind, uint32_t folio, uint32_t person, uint32_t deed)
+{
+    const uint32_t row[] = {minute, kind, folio, person, deed};
+    return tormukai_step(&table, joint, LENGTH(joint), TIMEOUT, row, LENGTH(row));
+}
+
+/* The table is zero at first, as a static one is. */
+static void steps(void)
+{
+    say_step("step, a question", step(10, QUESTION, 42, 11, 31));
+    say_step("step, a start", step(20, START, 42, 0, 0));
+    say_step("step, its own minute", step(20, QUESTION, 42, 11, 31));
+    say_step("step, the next minute", step(21, QUESTION, 42, 11, 31));
+    say_step("step, a second start", step(50, START, 42, 0, 0));
+    say_step("step, the second start's minute", step(50, QUESTION, 42, 11, 31));
+    say_step("step, unknown to office 2", step(50, QUESTION, 42, 12, 31));
+    say_step("step, unknown to both", step(50, QUESTION, 42, 99, 31));
+    say_step("step, folio 0", step(60, START, 0, 0, 0));
+    say_step("step, an end", step(60, END, 42, 0, 0));
+    say_step("step, the first empty place", step(60, START, 41, 0, 0));
+    say_step("step, the last minute of two", step(119, QUESTION, 41, 11, 31));
+    say_step("step, both expired", step(120, QUESTION, 41, 11, 31));
+}
+
+/* A refused row leaves the table as it was, whatever else is wrong with the row. */
+static void refused_steps(void)
+{
+    static const uint32_t row[] = {130, START, 7, 0, 0, 0};
+    say_step("step, held before", step(130, START, 5, 0, 0));
+    say_step("step, a lower minute", step(129, START, 7, 0, 0));
+    say_step("step, a lower minute and no kind", step(129, 4, 7, 0, 0));
+    say_step("step, no kind", step(131, 0, 7, 0, 0));
+    say_step("step, a start with a person", step(131, START, 7, 1, 0));
+    say_step("step, an end with a deed", step(131, END, 5, 0, 1));
+    say_step("step, no words", tormukai_step(&table, joint, LENGTH(joint), TIMEOUT, row, 0));
+    say_step("step, four words", tormukai_step(&table, joint, LENGTH(joint), TIMEOUT, row, 4));
+    say_step("step, six words", tormukai_step(&table, joint, LENGTH(joint), TIMEOUT, row, 6));
+    say_step("step, one office", tormukai_step(&table, first, n, TIMEOUT, row, 5));
+    say_step("step, damaged", tormukai_step(&table, damaged, n, TIMEOUT, row, 0));
+}
+
+/* Tables that no rows lead to: a folio in two places, a mark of its own, words in an empty place, a last minute above all. */
+static void made_up_tables(void)
+{
+    table = (TormukaiWatch){200, {[3] = {1, 7, 150, 150}, [30] = {9, 7, 0, 0}, [31] = {0, 7, 8, 9}}};
+    say_step("step, a folio twice", step(0, 9, 7, 1, 1));
+    say_step("step, a folio twice, one office", tormukai_step(&table, first, n, TIMEOUT, first, 0));
+    table.places[3].mark = 0;
+    say_step("step, a folio once", step(300, START, 6, 0, 0));
+    table = (TormukaiWatch){0, {[5] = {4294967295, 42, 500, 4294967295}}};
+    say_step("step, a later minute", step(400, QUESTION, 42, 11, 31));
+    table.places[5] = (TormukaiEmergency){8, 42, 500, 399};
+    say_step("step, an earlier minute", step(400, START, 42, 0, 0));
+    say_step("step, open by the earlier", step(400, QUESTION, 42, 11, 31));
+    table.last = 4294967295;
+    say_step("step, after the last minute", step(4294967294, END, 42, 0, 0));
+}
+
+/* 32 folios are held, and no more. */
+static void full_tables(void)
+{
+    table = (TormukaiWatch){0, {{0, 0, 0, 0}}};
+    for (uint32_t folio = 0; folio < TORMUKAI_PLACES; folio++)
+        if (step(10, START, folio, 0, 0).number != 0)
+            printf("folio %" PRIu32 " was refused\n", folio);
+    const TormukaiWatch full = table;
+    const TormukaiAnswer a = step(69, START, 32, 0, 0);
+    printf("step, a 33rd folio: %" PRIu32 " %" PRIu32 " %" PRIu32, a.number, a.value, a.count);
+    printf("; %d\n", memcmp(&full, &table, sizeof table));
+    say_step("step, 32 expired", step(70, START, 32, 0, 0));
+    printf("words of a table: %zu\n", sizeof table / sizeof table.last);
+}
+
+static void say_trace(const char *name, TormukaiTraceReply t, size_t shown)
+{
+    printf("%s: %" PRIu32 " %" PRIu32 " %" PRIu32 " %zu;", name, t.number, t.sheet, t.row, t.count);
+    say_words(shown);
+}
+
+static TormukaiTraceReply trace(const uint32_t *rows, size_t length, size_t room)
+{
+    return tormukai_trace(joint, LENGTH(joint), TIMEOUT, rows, length, out, room);
+}
+
+static void traces(void)
+{
+    static const uint32_t rows[] = {10, QUESTION, 42, 11, 31, 20, START, 42, 0, 0, 21, QUESTION, 42, 11, 31,
+                                    80, QUESTION, 41, 99, 31, 79, 4, 1, 1, 1, 90, START, 42, 1, 0};
+    say_trace("trace", trace(rows, 20, 3), 4);
+    say_trace("trace, more room", trace(rows, 20, LENGTH(out)), 4);
+    say_trace("trace, a word short", trace(rows, 20, 2), 3);
+    say_trace("trace, no rows", trace(rows, 0, 0), 1);
+    say_trace("trace, no questions", trace(rows + 5, 5, 0), 1);
+    say_trace("trace, a lower minute", trace(rows, 25, 0), 1);
+    say_trace("trace, a spare word", trace(rows + 25, 5, 0), 1);
+    say_trace("trace, a row cut short", trace(rows, 24, 0), 1);
+    say_trace("trace, one office", tormukai_trace(first, n, TIMEOUT, rows, 1, out, 0), 1);
+    say_trace("trace, damaged", tormukai_trace(damaged, n, TIMEOUT, rows, 1, out, 0), 1);
+}
+
 /* The damaged sheet is refused by each, before an output that is too short or a number that is not there. */
 static void damages(void)
 {
@@ -319,7 +439,7 @@ static void damages(void)
 
 static void texts(void)
 {
-    for (uint32_t number = 0; number <= 45; number++)
+    for (uint32_t number = 0; number <= 60; number++)
         printf("%" PRIu32 " %s\n", number, tormukai_refusal_text(number));
     printf("%" PRIu32 " %s\n", (uint32_t)4294967295, tormukai_refusal_text(4294967295));
 }
@@ -361,6 +481,10 @@ static void constants(void)
     SAY_CONSTANT(NOT_ONE_OFFICE);
     SAY_CONSTANT(UNION_NODES);
     SAY_CONSTANT(UNION_EDGES);
+    SAY_CONSTANT(FOLIO_TWICE);
+    SAY_CONSTANT(MINUTE);
+    SAY_CONSTANT(TRACE_ROW);
+    SAY_CONSTANT(HELD_FOLIOS);
     SAY_CONSTANT(NO_SUCH_PATH);
     SAY_CONSTANT(OUTPUT_TOO_SHORT);
 }
@@ -384,6 +508,11 @@ int main(void)
     listings();
     single_lines();
     large_listing();
+    steps();
+    refused_steps();
+    made_up_tables();
+    full_tables();
+    traces();
     damages();
     texts();
     constants();

@@ -1,8 +1,8 @@
 /* How much stack an entry of the header takes: stack NAME BYTES; without words it prints the names.
  * The entry is called on a stack of its own of just so many bytes, painted before, with a page below it that may not be touched:
  * an entry that needs more ends the program by a fault. It is called on full sheets, on one with room for a row and on damaged
- * ones, on their listings and on wrong ones, for what there is and for what there is not. Printed is the most that any call
- * changed of the paint, the call itself included, then how many calls were answered and how many refused. */
+ * ones, on their listings and on wrong ones, on a duty desk's full table, for what there is and for what there is not. Printed is
+ * the most that any call changed of the paint, the call itself included, then how many calls were answered and how many refused. */
 #define _DEFAULT_SOURCE /* MAP_ANONYMOUS */
 #include "tormukai.h"
 
@@ -260,6 +260,48 @@ static const Question questions[] = {
     {1, 0, 1, 1, 999, 999, LAST + 1, 1},                 {1, 0, HIGH, HIGH, HIGH + 1, HIGH + FOLIO, HIGH + LAST, 50000},
 };
 
+/* ---- Traces ---- */
+
+/* Made anew for each call, since a step changes the table. 31 folios that no sheet has are held, and the folio that is asked for
+ * from two minutes: the table is full, and at minute 3 the folio is open. The trace's rows lead to that table and go on. */
+enum { OTHERS = TORMUKAI_PLACES - 1, TIMEOUT = 60 };
+static TormukaiWatch table;
+static uint32_t rows[TORMUKAI_ROW_WORDS * (OTHERS + 8)];
+static size_t rows_length;
+
+static void put_row(uint32_t minute, uint32_t kind, uint32_t folio, uint32_t person, uint32_t deed)
+{
+    const uint32_t row[] = {minute, kind, folio, person, deed};
+    memcpy(rows + rows_length, row, sizeof row);
+    rows_length += LENGTH(row);
+}
+
+static void make_table(const Question *question)
+{
+    table.last = 2;
+    for (uint32_t i = 0; i < OTHERS; i++)
+        table.places[i] = (TormukaiEmergency){1, 2000 + i, 2, 2};
+    table.places[OTHERS] = (TormukaiEmergency){1, question->folio, 2, 1};
+}
+
+static void make_trace(const Question *question)
+{
+    rows_length = 0;
+    put_row(1, TORMUKAI_ROW_START, question->folio, 0, 0);
+    for (uint32_t i = 0; i < OTHERS; i++)
+        put_row(2, TORMUKAI_ROW_START, 2000 + i, 0, 0);
+    put_row(2, TORMUKAI_ROW_START, question->folio, 0, 0);
+    put_row(3, TORMUKAI_ROW_QUESTION, question->folio, question->person, question->deed);
+    put_row(3, TORMUKAI_ROW_QUESTION, question->folio, question->person, 999);
+    put_row(4, TORMUKAI_ROW_END, question->folio, 0, 0);
+    put_row(5, TORMUKAI_ROW_QUESTION, question->folio, question->person, question->deed);
+    put_row(6, TORMUKAI_ROW_START, 3000, 0, 0);
+    put_row(6, TORMUKAI_ROW_START, question->kind == 0 ? 3000 : 3001, 0, 0);
+}
+
+/* The rows that a step is lent by turns, as places in the trace: a question that is open, an end, a folio too many. */
+static const size_t turns[] = {OTHERS + 2, OTHERS + 4, OTHERS + 2, OTHERS + 6};
+
 static const Sheet *first;
 static const Sheet *second;
 static const Question *asked;
@@ -310,6 +352,10 @@ ENTRY(find_edge, WORDS_OF(first), MEMBERSHIP)
 ENTRY(add_node, WORDS_OF(first), 1, 1000 + asked->person, 0, 1, WORDS_OUT)
 ENTRY(add_edge, WORDS_OF(first), MEMBERSHIP, 1, WORDS_OUT)
 
+#define ROW_OF_TURN rows + TORMUKAI_ROW_WORDS * turns[(size_t)(asked - questions) % LENGTH(turns)], TORMUKAI_ROW_WORDS
+ENTRY(step, &table, WORDS_OF(first), TIMEOUT, ROW_OF_TURN)
+ENTRY(trace, WORDS_OF(first), TIMEOUT, rows, rows_length, WORDS_OUT)
+
 ENTRY(read_listing, LISTING_OF(first), WORDS_OUT)
 ENTRY(write_listing, WORDS_OF(first), LISTING_OUT)
 
@@ -352,7 +398,8 @@ static const struct {
     LISTED(sheet_witness), LISTED(is_path), LISTED(persons_in_category), LISTED(persons_with_grant),
     LISTED(folios_out_of_reach), LISTED(least_triple), LISTED(least_holder), LISTED(redundant_edges), LISTED(join),
     LISTED(take_out), LISTED(look_up), LISTED(look_up_refusal), LISTED(find_node), LISTED(find_edge), LISTED(add_node),
-    LISTED(add_edge), LISTED(read_listing), LISTED(write_listing), LISTED(read_line), LISTED(known),
+    LISTED(add_edge), LISTED(read_listing), LISTED(write_listing), LISTED(read_line), LISTED(step), LISTED(trace),
+    LISTED(known),
 };
 
 /* ---- The painted stack ---- */
@@ -402,6 +449,8 @@ static void call_with(void (*call)(void), size_t one, size_t two, size_t questio
     first = &sheets[one];
     second = &sheets[two];
     asked = &questions[question];
+    make_table(asked);
+    make_trace(asked);
     call_on_stack(call);
     *(got == 0 ? &answered : &refused) += 1;
 }

@@ -16,7 +16,7 @@ SENTENCES = {
     33: 'bytes: length not a multiple of 4, or above 40,984',
     1: 'under 6 words',
     2: 'form not 1',
-    3: 'office count not 1 or 2',
+    3: 'office count not 1 or 2, or no office 2 for the duty desk',
     4: 'n above 512 or e above 2,048',
     5: 'an offset or the length is wrong',
     6: 'node type',
@@ -42,6 +42,10 @@ SENTENCES = {
     28: "joining or listing a sheet whose office count isn't 1",
     29: 'union above 512 nodes',
     30: 'union above 2,048 edges',
+    59: 'a table that names a folio in two places',
+    50: 'minute lower than the row before',
+    54: 'a row of a trace with an unknown kind, a nonzero spare word or not five words',
+    51: 'a start that would make 33 folios held',
     26: 'no such path, triple or pair',
     25: 'output shorter than the result',
 }
@@ -89,6 +93,17 @@ class RefusedLine(RefusedTyping):
 
     def where(self):
         return {'file': escaped(os.fsencode(self.file)), 'line': self.row + 1}
+
+
+class RefusedRow(Refused):
+    """A refused row of a trace's file, from 0; or 33, which is of no row."""
+
+    def __init__(self, number, row, file='-'):
+        super().__init__(number, 0, row)
+        self.file = file
+
+    def fields(self):
+        return {**super().fields(), 'file': escaped(os.fsencode(self.file))}
 
 
 class Unfound(Refused):
@@ -170,6 +185,8 @@ def listed(lines):
 def place(of):
     if 'line' in of:
         return f" at {of['file']}:{of['line']}"
+    if 'file' in of:
+        return f" at {of['file']}" + (f" row {of['row']}" if of['number'] != 33 else '')
     row = f" row {of['row']}" if 6 <= of['number'] <= 17 else ''
     return f" at sheet {of['sheet']}{row}" if of['sheet'] else ''
 
@@ -208,6 +225,11 @@ def decided(of):
     return f"{of['answer']} ({of['value']}), decided by {by}"
 
 
+def question(of):
+    asked = f"minute {of['minute']}: folio {of['folio']}, person {of['person']}, deed {of['deed']}"
+    return f"{asked}: {of['answer']} ({of['value']}), emergency {'open' if of['open'] else 'not open'}"
+
+
 TEXT = {
     'check': lambda of: ['accepted: ' + counts(of)],
     'answer': lambda of: [f"{of['answer']} ({of['value']})"],
@@ -226,6 +248,7 @@ TEXT = {
     'add': lambda of: [node(of['node']) if 'node' in of else edge(of['edge'])] + sized(of),
     'read': sized,
     'list': lambda of: of['listing'].split('\n')[:-1],
+    'watch': lambda of: listed(question(each) for each in of['questions']),
     'show': shown,
 }
 

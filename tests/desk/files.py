@@ -25,6 +25,7 @@ ONE_FILE = {
     'take': ['1', 'out'],
     'add': ['out', 'person 13'],
     'list': [],
+    'watch': ['60', 'none'],
     'show': [],
     'draw': ['1'],
 }

@@ -24,7 +24,7 @@ def text_words(text):
 def lines():
     """What tests/library.c prints. Of a result: number, sheet, row, value, count; what was written; the word after it.
     Where out is lent as bytes, it is shown as words: the machine is x86-64."""
-    yield 'version: 0.5.0'
+    yield 'version: 0.6.0'
     yield 'answer: 0 0 0 2 0; 4294967295'
     yield 'joint_answer: 0 0 0 2 1; 4294967295'
     yield 'witness: 0 0 0 0 40; 11 0 21 0 22 0 31 1 41 0 4294967295'
@@ -126,6 +126,7 @@ def lines():
     for length, said in SINGLE_LINES:
         yield f'read_line, {length} bytes: {said}'
     yield 'read_listing, 513 nodes: 4 0 0 0; 4294967295'
+    yield from duty_lines()
     yield 'check: 0 0 0'
     yield 'check, damaged: 6 1 3'
     for name in ('sheet_answer', 'sheet_joint_answer', 'sheet_witness', 'is_path', 'persons_in_category', 'persons_with_grant',
@@ -134,10 +135,69 @@ def lines():
         yield f'{name}, damaged: 6 1 3 0 0; 4294967295'
     yield 'join, damaged: 6 2 3 0 0 0 0 0; 4294967295'
     yield 'look_up_refusal, damaged: 6 2 3'
-    for number in [*range(46), 4294967295]:
+    for number in [*range(61), 4294967295]:
         yield f"{number} {SENTENCES.get(number, 'not in the table of refusals')}"
     for name, number in CONSTANTS:
         yield f'{name} {number}'
+
+
+# Of a step: number, sheet, row, value, count; the table's last minute; each place that is not all zero.
+STEPS = [
+    ('a question', '0 0 0 2 1; 10'),
+    ('a start', '0 0 0 0 0; 20; 0: 1 42 20 20'),
+    ('its own minute', '0 0 0 2 1; 20; 0: 1 42 20 20'),
+    ('the next minute', '0 0 0 1 2; 21; 0: 1 42 20 20'),
+    ('a second start', '0 0 0 0 0; 50; 0: 1 42 50 20'),
+    ("the second start's minute", '0 0 0 1 2; 50; 0: 1 42 50 20'),
+    ('unknown to office 2', '0 0 0 2 2; 50; 0: 1 42 50 20'),
+    ('unknown to both', '0 0 0 0 2; 50; 0: 1 42 50 20'),
+    ('folio 0', '0 0 0 0 0; 60; 0: 1 42 50 20; 1: 1 0 60 60'),
+    ('an end', '0 0 0 0 0; 60; 1: 1 0 60 60'),
+    ('the first empty place', '0 0 0 0 0; 60; 0: 1 41 60 60; 1: 1 0 60 60'),
+    ('the last minute of two', '0 0 0 1 2; 119; 0: 1 41 60 60; 1: 1 0 60 60'),
+    ('both expired', '0 0 0 1 1; 120'),
+    ('held before', '0 0 0 0 0; 130; 0: 1 5 130 130'),
+    ('a lower minute', '50 0 0 0 0; 130; 0: 1 5 130 130'),
+    ('a lower minute and no kind', '50 0 0 0 0; 130; 0: 1 5 130 130'),
+    ('no kind', '54 0 0 0 0; 130; 0: 1 5 130 130'),
+    ('a start with a person', '54 0 0 0 0; 130; 0: 1 5 130 130'),
+    ('an end with a deed', '54 0 0 0 0; 130; 0: 1 5 130 130'),
+    ('no words', '54 0 0 0 0; 130; 0: 1 5 130 130'),
+    ('four words', '54 0 0 0 0; 130; 0: 1 5 130 130'),
+    ('six words', '54 0 0 0 0; 130; 0: 1 5 130 130'),
+    ('one office', '3 1 0 0 0; 130; 0: 1 5 130 130'),
+    ('damaged', '6 1 3 0 0; 130; 0: 1 5 130 130'),
+    ('a folio twice', '59 0 0 0 0; 200; 3: 1 7 150 150; 30: 9 7 0 0; 31: 0 7 8 9'),
+    ('a folio twice, one office', '3 1 0 0 0; 200; 3: 1 7 150 150; 30: 9 7 0 0; 31: 0 7 8 9'),
+    ('a folio once', '0 0 0 0 0; 300; 0: 1 6 300 300'),
+    ('a later minute', '0 0 0 2 1; 400; 5: 4294967295 42 500 4294967295'),
+    ('an earlier minute', '0 0 0 0 0; 400; 5: 8 42 500 399'),
+    ('open by the earlier', '0 0 0 1 2; 400; 5: 8 42 500 399'),
+    ('after the last minute', '50 0 0 0 0; 4294967295; 5: 8 42 500 399'),
+]
+# Of a trace: number, sheet, row, count; what was written; the word after it.
+TRACES = [
+    ('', '0 0 0 3; 2 1 0 4294967295'),
+    (', more room', '0 0 0 3; 2 1 0 4294967295'),
+    (', a word short', '25 0 0 0; 4294967295 4294967295 4294967295'),
+    (', no rows', '0 0 0 0; 4294967295'),
+    (', no questions', '0 0 0 0; 4294967295'),
+    (', a lower minute', '50 0 0 0; 4294967295'),
+    (', a spare word', '54 0 0 0; 4294967295'),
+    (', a row cut short', '54 0 0 0; 4294967295'),
+    (', one office', '3 1 0 0; 4294967295'),
+    (', damaged', '6 1 3 0; 4294967295'),
+]
+
+
+def duty_lines():
+    for label, said in STEPS:
+        yield f'step, {label}: {said}'
+    yield 'step, a 33rd folio: 51 0 0; 0'
+    yield 'step, 32 expired: 0 0 0 0 0; 70; 0: 1 32 70 70'
+    yield 'words of a table: 129'
+    for label, said in TRACES:
+        yield f'trace{label}: {said}'
 
 
 # Sheet A with person 13 at row 2: every end from row 2 on is one more.
@@ -157,7 +217,7 @@ NAMES = ('LISTING_LINE', 'LISTING_NUMBER', 'LISTING_REPEATED', 'LISTING_NO_NODE'
          'NUMBER_OR_VARIANT', 'NODE_OFFICES', 'NODE_REPEATED', 'NODE_ORDER', 'EDGE_KIND', 'EDGE_END', 'END_TYPES',
          'WITHIN_ITSELF', 'EDGE_OFFICES', 'EDGE_REPEATED', 'EDGE_ORDER', 'OFFICE', 'RULE', 'UNKNOWN_PERSON', 'UNKNOWN_DEED',
          'UNKNOWN_CATEGORY', 'UNKNOWN_FOLIO', 'EQUAL_DEEDS', 'IN_NEITHER_SHEET', 'NOT_ONE_OFFICE', 'UNION_NODES',
-         'UNION_EDGES', 'NO_SUCH_PATH', 'OUTPUT_TOO_SHORT')
+         'UNION_EDGES', 'FOLIO_TWICE', 'MINUTE', 'TRACE_ROW', 'HELD_FOLIOS', 'NO_SUCH_PATH', 'OUTPUT_TOO_SHORT')
 CONSTANTS = list(zip(NAMES, SENTENCES))
 
 

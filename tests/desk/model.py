@@ -6,7 +6,7 @@ be asked about them.
 import re
 import struct
 
-from .expect import KINDS, TYPES, NoEnd, Refused, RefusedLine, RefusedTyping, Unfound, answered, identity_object
+from .expect import KINDS, TYPES, NoEnd, Refused, RefusedLine, RefusedRow, RefusedTyping, Unfound, answered, identity_object
 from .sheets import APPLIES, BAN, CATEGORY, DEED, FOLIO, GRANT, MEMBER, MOST_BYTES, MOST_EDGES, MOST_NODES, PERSON, WITHIN
 from .sheets import Edge, Node, Sheet
 
@@ -459,6 +459,64 @@ def refuse_edge(sheet, relation, marks):
         raise Refused(16)
     if len(sheet.edges) == MOST_EDGES:
         raise Refused(4)
+
+
+# ---- The duty desk
+
+START, END, QUESTION = 1, 2, 3
+MOST_FOLIOS = 32
+
+
+def held(history, folio, minute, timeout):
+    """The minutes of the start rows that hold the folio at this minute."""
+    minutes = []
+    for row_minute, kind, row_folio, *_ in history:
+        if row_folio == folio and kind == END:
+            minutes = []
+        if row_folio == folio and kind == START:
+            minutes.append(row_minute)
+    return [start for start in minutes if minute < start + timeout]
+
+
+def held_folios(history, minute, timeout):
+    return [folio for folio in {row[2] for row in history} if held(history, folio, minute, timeout)]
+
+
+def row_fault(row, history, timeout):
+    if len(row) != 5:
+        return 54
+    minute, kind, _, person, deed = row
+    if history and minute < history[-1][0]:
+        return 50
+    if kind not in (START, END, QUESTION) or kind != QUESTION and (person, deed) != (0, 0):
+        return 54
+    return 51 if kind == START and len(held_folios(history + [row], minute, timeout)) > MOST_FOLIOS else 0
+
+
+def at_office(sheet, office, person, deed, folio):
+    """An office that does not know one of them is undetermined."""
+    known = all(number in numbers(sheet, type_, office) for type_, number in ((PERSON, person), (DEED, deed), (FOLIO, folio)))
+    return value(sheet, office, person, deed, folio) if known else 0
+
+
+def asked(sheet, row, history, timeout):
+    minute, _, folio, person, deed = row
+    opened = any(start < minute for start in held(history, folio, minute, timeout))
+    answers = [at_office(sheet, office, person, deed, folio) for office in ((2, 1) if opened else (1,))]
+    got = next((each for each in answers if each), 0)
+    return {'minute': minute, 'folio': folio, 'person': person, 'deed': deed, 'answer': answered(got), 'value': got, 'open': opened}
+
+
+def watch(sheet, timeout, words, file='-'):
+    """The questions of a trace, by the whole history of each row."""
+    if sheet.offices < 2:
+        raise Refused(3, 1)
+    rows = [list(words[at:at + 5]) for at in range(0, len(words), 5)]
+    for at, row in enumerate(rows):
+        number = row_fault(row, rows[:at], timeout)
+        if number:
+            raise RefusedRow(number, at, file)
+    return {'questions': [asked(sheet, row, rows[:at], timeout) for at, row in enumerate(rows) if row[1] == QUESTION]}
 
 
 # ---- The rows

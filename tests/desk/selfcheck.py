@@ -1,8 +1,9 @@
 """The tests can fail: what is known to be wrong has to be noticed."""
 from .drive import Finding, Ran, ask, held, held_json, same
-from .expect import NoEnd, Refused, RefusedLine, RefusedTyping, Unfound
+from .expect import NoEnd, Refused, RefusedLine, RefusedRow, RefusedTyping, Unfound
 from .known import says
 from .sheets import A, HARBOUR
+from .watching import DUTY
 from . import drawn
 
 
@@ -41,8 +42,25 @@ def runs(room):
                                ('an end twice', 'within 23 23', NoEnd((2, 23, 0), (2, 23, 0))),
                                ('other bytes', 'person 0', RefusedTyping(41, b'person 00')), ('no bytes', 'person 0', Refused(41))):
         yield noticed(f'a refused row: {label}', ask('wrong', 'add', [a, 'out', line], wrong))
+    yield from traces(room)
     graph = drawn.draw('', room.file(A.file()), ['1'])[1]
     yield noticed("another sheet's picture", drawn.rows_drawn('wrong', graph, HARBOUR, 1))
+
+
+def traces(room):
+    """A trace with another answer, another minute, another truth, and a refusal of another row, line or number."""
+    duty, right, lower = room.file(DUTY.file()), room.file(b'1 ask 7 2 5\n'), room.file(b'1 end 7\n0 end 7\n')
+    asked = {'minute': 1, 'folio': 7, 'person': 2, 'deed': 5, 'answer': 'granted', 'value': 1, 'open': False}
+    for label, wrong in (('an answer', {**asked, **says(2)}), ('a minute', {**asked, 'minute': 2}),
+                         ('a truth', {**asked, 'open': True})):
+        yield noticed(f'a trace: {label}', ask('wrong', 'watch', [duty, 60, right, '--text'], {'questions': [wrong]}))
+    yield noticed('a trace: no question', ask('wrong', 'watch', [duty, 60, right, '--text'], {'questions': []}))
+    for label, wrong in (('a line', RefusedLine(50, 0, b'0 end 7', True, lower)), ('a row', RefusedRow(50, 1, lower)),
+                         ('a number', RefusedLine(54, 1, b'0 end 7', True, lower)), ('an answer', {'questions': []})):
+        yield noticed(f'a refused trace: {label}', ask('wrong', 'watch', [duty, 60, lower, '--text'], wrong))
+    zeros = '/dev/zero'
+    for label, wrong in (('a row', RefusedRow(54, 1, zeros)), ('a file', RefusedRow(54, 0, 'zeros')), ('no row', Refused(54))):
+        yield noticed(f'a refused trace of words: {label}', ask('wrong', 'watch', [duty, 60, zeros], wrong))
 
 
 def comparisons():

@@ -27,12 +27,13 @@ VERBS = {
     'add': 'FILE OUT LINE [OFFICES]',
     'read': 'LISTING OUT',
     'list': 'FILE',
+    'watch': 'FILE TIMEOUT TRACE [--text]',
     'show': 'FILE',
     'draw': 'FILE OFFICE [grant|ban PERSON DEED FOLIO]',
 }
 RIGHT = {'FILE': 'a', 'FIRST': 'a', 'SECOND': 'b', 'LISTING': 'listing', 'OUT': 'out', 'grant|ban': 'grant',
          '[grant|ban': 'grant', 'person|category|deed|folio': 'person', 'NUMBER[/VARIANT]': '11', 'NODE..': '11',
-         'LINE': 'person 13'}
+         'LINE': 'person 13', 'TRACE': 'trace', '[--text': '--text'}
 
 NO_NUMBER = 'is no number from 0 to 4294967295'
 NO_KIND = 'is neither grant nor ban'
@@ -42,6 +43,7 @@ NO_TYPE = 'is no type: person, category, deed or folio'
 NO_IDENTITY = 'is no identity: NUMBER or NUMBER/VARIANT'
 NO_NAME = "is no file's name for the result"
 NO_OFFICES = 'is no list of offices: numbers from 1 to 32 with commas, none twice'
+NO_OPTION = 'is not the option --text'
 ONCE = 'can be read only once'
 
 # A sign, a space, another base, a separator or a number too large make no number.
@@ -57,6 +59,7 @@ WRONG = {
     'NUMBER[/VARIANT]': [(word, NO_IDENTITY) for word in NO_SLASHES + SPACED],
     'NODE..': [(word, NO_NODE) for word in NO_SLASHES + ['>', 'person', 'Person', 'folio']],
     'OUT': [('-', NO_NAME)],
+    '[--text': [(word, NO_OPTION) for word in ('', 'text', '-text', '--texts', '--Text', '--text ', '--json', '1')],
     '[OFFICES': [(word, NO_OFFICES) for word in ('', 'x', '0', '33', '-1', '+1', ' 1', '1 ', ',', '1,', ',1', '1,,2', '1, 2', '1 2',
                                                  '1;2', '1-2', '1/2', '1,1', '2,1,2', '1,01', '1,33', '1,x', '4294967297')],
 }
@@ -84,16 +87,17 @@ def places(verb):
         name = name if name.endswith('VARIANT]') else name.rstrip(']')
         if name in WRONG:
             yield place, WRONG[name]
-        elif name not in ('FILE', 'FIRST', 'SECOND', 'LISTING', 'LINE'):
+        elif name not in ('FILE', 'FIRST', 'SECOND', 'LISTING', 'LINE', 'TRACE'):
             yield place, [(word, NO_NUMBER) for word in NUMBERS]
 
 
 def desk(room):
-    """A folder with A, B, a listing and an older OUT."""
+    """A folder with A, B, a listing, a trace and an older OUT."""
     made = room.folder()
     (made / 'a').write_bytes(A.file())
     (made / 'b').write_bytes(B.file())
     (made / 'listing').write_bytes(b'person 11\n')
+    (made / 'trace').write_bytes(b'10 start 41\n')
     (made / 'out').write_bytes(OLDER)
     return made
 
@@ -115,7 +119,7 @@ def wrong_words(verb, room):
 def wrong_counts(verb, room):
     """Too few arguments, and too many."""
     cwd, whole = desk(room), right(verb)
-    enough = {'draw': (2, 6), 'add': (3, 4)}.get(verb, (len(whole),))
+    enough = {'draw': (2, 6), 'add': (3, 4), 'watch': (3, 4)}.get(verb, (len(whole),))
     for count in range(len(whole)):
         if count not in enough:
             for option in [], ['--json']:
@@ -140,7 +144,8 @@ def wrong_nodes(room):
 
 def read_once(room):
     cwd = desk(room)
-    for args in ('find', '-', '-', 'person', '11'), ('join', '-', '-', 'out'):
+    for args in (('find', '-', '-', 'person', '11'), ('join', '-', '-', 'out'), ('watch', '-', '60', '-'),
+                 ('watch', '-', '60', '-', '--text')):
         yield held(f'{args[0]} - -', counter(*args, cwd=cwd, stdin=A.file()), 2, '', bad(args[0], '-', ONCE))
     yield same('- twice: the folder is as it was', contents(desk(room)), contents(cwd))
 

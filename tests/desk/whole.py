@@ -5,7 +5,7 @@
 from .drive import SHOWN, same
 
 OF_A_FILE = {33, *range(1, 18)}
-PLACED = {28}  # of those of a question: the sheet is told. A line and a row to be added have no sheet, whatever the number.
+PLACED = {28, 3}  # of those of a question: the sheet is told. A line, a trace and a row to be added have no sheet.
 OF_A_QUESTION = {
     'check': set(),
     'answer': {20, 21, 22, 23},
@@ -24,6 +24,7 @@ OF_A_QUESTION = {
     'add': {40, 41, 8, 9, 12, 14, 15, 16, 4},
     'read': {40, 41, 42, 14, 43, 4},
     'list': {28},
+    'watch': {3, 33, 50, 54, 51},
     'show': set(),
     'draw': {20, 21, 22, 23, 26},
 }

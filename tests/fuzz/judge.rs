@@ -1,6 +1,6 @@
 //! The second program's own judgement as a library for C: what the counter's
-//! entries, the readers of listings and of one line, and the functions that search for
-//! a row and add one have to answer, byte for byte.
+//! entries, the readers of listings and of one line, the functions that search for a row
+//! and add one, and those of the duty desk have to answer, byte for byte.
 
 // Much of the second program's model is not used here.
 #![allow(dead_code)]
@@ -15,6 +15,8 @@ use model::judge::{judge_bytes, Verdict};
 use model::listing;
 use model::position::{key_of, search, Table};
 use model::sheet::{bytes_of, Row};
+use model::trace::trace;
+use model::watch::{step, Watch, WATCH_WORDS};
 
 /// number, sheet, row, value, count
 type Reply = [u32; 5];
@@ -135,10 +137,61 @@ pub unsafe extern "C" fn second_row(
         2 => add(Table::Nodes, row, words, room),
         _ => add(Table::Edges, row, words, room),
     };
-    let (numbers, written) = match outcome {
-        Ok(Answer { value, count, written, .. }) => ([0, 0, 0, value, count], written),
-        Err(Refusal { number, sheet, row }) => ([number, sheet, row, 0, 0], Vec::new()),
-    };
+    let (numbers, written) = replied(outcome);
     std::slice::from_raw_parts_mut(reply, 5).copy_from_slice(&numbers);
     std::slice::from_raw_parts_mut(out, room)[..written.len()].copy_from_slice(&written);
+}
+
+/// What comes back, and what is written.
+fn replied(outcome: Result<Answer, Refusal>) -> (Reply, Vec<u32>) {
+    match outcome {
+        Ok(Answer { value, count, written, .. }) => ([0, 0, 0, value, count], written),
+        Err(Refusal { number, sheet, row }) => ([number, sheet, row, 0, 0], Vec::new()),
+    }
+}
+
+/// A whole trace. The rows are so many words, five a row, and the last may be cut short;
+/// the reply has room for five, and `out` for as many words as the function's output.
+///
+/// # Safety
+/// Every pointer has to be good for so many.
+#[no_mangle]
+pub unsafe extern "C" fn second_trace(
+    sheet: *const u32,
+    length: usize,
+    timeout: u32,
+    rows: *const u32,
+    rows_length: usize,
+    out: *mut u32,
+    room: usize,
+    reply: *mut u32,
+) {
+    let words = std::slice::from_raw_parts(sheet, length);
+    let rows = std::slice::from_raw_parts(rows, rows_length);
+    let (numbers, written) = replied(trace(words, timeout, rows, room));
+    std::slice::from_raw_parts_mut(reply, 5).copy_from_slice(&numbers);
+    std::slice::from_raw_parts_mut(out, room)[..written.len()].copy_from_slice(&written);
+}
+
+/// One row on a lent table of 129 words, which are then the table after. The reply has
+/// room for five.
+///
+/// # Safety
+/// Every pointer has to be good for so many.
+#[no_mangle]
+pub unsafe extern "C" fn second_step(
+    watch: *mut u32,
+    sheet: *const u32,
+    length: usize,
+    timeout: u32,
+    row: *const u32,
+    row_length: usize,
+    reply: *mut u32,
+) {
+    let table = std::slice::from_raw_parts_mut(watch, WATCH_WORDS);
+    let words = std::slice::from_raw_parts(sheet, length);
+    let row = std::slice::from_raw_parts(row, row_length);
+    let (outcome, after) = step(&Watch::of(table), words, timeout, row);
+    std::slice::from_raw_parts_mut(reply, 5).copy_from_slice(&replied(outcome).0);
+    table.copy_from_slice(&after.words());
 }

@@ -11,11 +11,14 @@
 //! second [--seed N] [--cases N] [--questions N] [--only OPERATIONS] [--case K]
 //!     [--patience SECONDS] -- COMMAND ARGS..
 //! second --long N [--seed N] [--only OPERATIONS] [--case K] -- COMMAND ARGS..
+//! second --tables [--seed N] [--case K] [--patience SECONDS] -- COMMAND ARGS..
 //! second --benchmark [--only OPERATIONS] -- COMMAND ARGS..
 //! second --seeds FOLDER [--seed N]
 //! second --texts FOLDER [--seed N]
 //! second --lines FOLDER [--seed N]
 //! second --rows FOLDER [--seed N]
+//! second --traces FOLDER [--seed N]
+//! second --lent FOLDER [--seed N]
 //! second --self-test
 
 mod benchmark;
@@ -37,6 +40,7 @@ use run::seeds;
 fn main() {
     let tally = match Options::read(std::env::args().skip(1)) {
         Ok(options) if options.self_test => selftest::run(),
+        Ok(options) if options.tables => run::tables::run(&options),
         Ok(options) if options.benchmark => benchmark::run(&options),
         Ok(Options { seed, seeds: Some((sort, folder)), .. }) => seeds::write(sort, seed, &folder),
         Ok(options) => run::run(&options),

@@ -1,4 +1,4 @@
--- What is refused of a row, line by line, and how a refusal or a sheet becomes the answer.
+-- What is refused of a row, line by line, and what an answer shows.
 -- Assumes nothing.
 use Prim.Native.Nat.{ℕ, _<_, _≤_}
 use mathlib.Core.Path.{_≡_, refl, sym, ap, ap₂, subst, _∙_}
@@ -15,14 +15,12 @@ use Rattle.sheet.specs.declared.Half.{Half}
 use Rattle.sheet.specs.declared.Half.the-variants.{Nodes, Edges}
 use Rattle.sheet.specs.declared.Header.{Header}
 use Rattle.sheet.specs.declared.Refusal.{Refusal}
-use Rattle.sheet.specs.Refusals.{_when_otherwise_, none, refuse}
+use Rattle.sheet.specs.Refusals.{refuse}
 use Rattle.sheet.specs.Rows.{headerOf, countIn, rowKey, rowKeyAt}
-use Rattle.sheet.specs.Verdict.{verdict, rowFault}
-use Rattle.sheet.proofs.Refusing.{taken, left, some-is, none-is, else-good, line-good, refuse-plain}
+use Rattle.sheet.specs.Verdict.{rowFault}
+use Rattle.sheet.proofs.Refusing.{taken, left, some-is, none-is, else-good, line-good}
 use Rattle.question.specs.declared.Answer.{Answer}
-use Rattle.question.specs.Asked.{plain, afterSheet}
-use Rattle.question.specs.Replies.{refusedBy, tells}
-use Rattle.question.proofs.Telling.{plain-none, after-good, after-bad}
+use Rattle.question.specs.Replies.{tells}
 use Rattle.add.specs.Adding.{alreadyThere, mostIn, addFault, ShowsRow, refused, short, written}
 
 module _ (half : Half) (s : List ℕ) (h : Header) (head : h ≡ headerOf s) (c : Cells) where
@@ -73,34 +71,6 @@ fault-good half s c e =
     not-false false q = sym q
 
 -- ---- answers
-
-module _ (R : ℕ → List ℕ → Type 0) (out : List ℕ) (a : Answer) (out′ : List ℕ) where
-  as-told : (r : Refusal) (x : Answer) (w : List ℕ) → a ≡ x → out′ ≡ w → ShowsRow r R out x w → ShowsRow r R out a out′
-  as-told r x w e o y = subst (λ (v : List ℕ). ShowsRow r R out a v) (sym o) (subst (λ (u : Answer). ShowsRow r R out u w) (sym e) y)
-
-  hides : (r x : Refusal) → x ≡ r → (x .number ≡ 0 → ⊥) → a ≡ refusedBy x → out′ ≡ out → ShowsRow r R out a out′
-  hides r x e h q o = as-told r _ _ (q ∙ ap refusedBy e) o (refused (λ z. h (ap (λ (y : Refusal). y .number) e ∙ z)))
-
-  pub row-refused : (k n : ℕ) → n ≡ k → (n ≡ 0 → ⊥) → a ≡ refusedBy (record { number = n; sheet = 0; row = 0 }) → out′ ≡ out → ShowsRow (plain k) R out a out′
-  row-refused k n e h q o = hides (plain k) _ (refuse-plain k n e) h q o
-
-  pub row-bad : (s : List ℕ) (k : ℕ) (r : Refusal) → r ≡ verdict 1 s → (r .number ≡ 0 → ⊥) → a ≡ refusedBy r → out′ ≡ out → ShowsRow (afterSheet s k) R out a out′
-  row-bad s k r e h q o = hides (afterSheet s k) r (after-bad s k r e h) h q o
-
-  pub row-good : (s : List ℕ) (k : ℕ) (r : Refusal) → r ≡ verdict 1 s → r .number ≡ 0 → ShowsRow (plain k) R out a out′ → ShowsRow (afterSheet s k) R out a out′
-  row-good s k r e z x = subst (λ (y : Refusal). ShowsRow y R out a out′) (after-good s k r e z) x
-
-  pub row-unrefused : (k : ℕ) → k ≡ 0 → ShowsRow none R out a out′ → ShowsRow (plain k) R out a out′
-  unfolding refuse
-  row-unrefused k e y = rw e y
-
-  pub row-short : (i : ℕ) (t : List ℕ) (n : ℕ) → R i t → length t ≡ n → length out < n → a ≡ refusedBy (record { number = 25; sheet = 0; row = 0 }) → out′ ≡ out → ShowsRow none R out a out′
-  unfolding refuse
-  row-short i t n r m l e o = as-told none _ _ e o (short i t refl r (subst (λ (x : ℕ). length out < x) (sym m) l))
-
-  pub row-written : (i : ℕ) (t : List ℕ) (n : ℕ) → R i t → length t ≡ n → n ≤ length out → a ≡ tells i n → out′ ≡ t ++ drop n out → ShowsRow none R out a out′
-  row-written i t n r m l e o =
-      as-told none _ _ (e ∙ ap (tells i) (sym m)) (o ∙ ap (λ (x : ℕ). t ++ drop x out) (sym m)) (written i t refl r (subst (λ (x : ℕ). x ≤ length out) (sym m) l))
 
 -- any two answers that a statement allows are one, and so is what they leave, where R allows one sheet and one row
 module _ (r : Refusal) (R : ℕ → List ℕ → Type 0) (one : r .number ≡ 0 → (i j : ℕ) (t u : List ℕ) → R i t → R j u → (i ≡ j) × (t ≡ u)) (out : List ℕ) where

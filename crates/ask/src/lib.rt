@@ -175,7 +175,7 @@ fn unknown_of(p: Places) -> u32
 }
 
 // The answer of the seat's office. An office that does not know the person, the deed or the folio is undetermined.
-fn office_answer(sheet: &[u32], edges: &[u32], h: Header, seat: Seat, q: Question) -> u32
+pub fn office_answer(sheet: &[u32], edges: &[u32], h: Header, seat: Seat, q: Question) -> u32
     requires { ⌜ AtSeat (now sheet) (now edges) h seat ⌝ }
     ensures { λ r. ⌜ AnswerIs (seenFrom (now (sheet .entry)) seat) (q .person) (q .deed) (q .folio) r ⌝ }
 {
@@ -392,7 +392,7 @@ fn path_rows(
 {
     let mut rows = [0u32; ROWS];
     let w = walk_for(seat, q.kind, q.deed);
-    walk::trace(sheet, edges, h, w, &d, rp, &mut rows);
+    walk::write_path(sheet, edges, h, w, &d, rp, &mut rows);
     rows
 }
 

@@ -1,4 +1,5 @@
 // The counter: what a program in C or Rust calls. Questions 1 to 3 and the check are asked of a file's bytes, and every other function of a sheet's words.
+use duty::TraceReply;
 use join::Joined;
 use lines::Line;
 use listing::Listing;
@@ -8,6 +9,7 @@ use sheet::Edge;
 use sheet::MAX_WORDS;
 use sheet::Node;
 use sheet::Refusal;
+use watch::Watch;
 ghost use mathlib.Core.Path.{_≡_};
 ghost use mathlib.Core.List.{[], _∷_};
 ghost use lib.ListN.{length};
@@ -28,6 +30,7 @@ ghost use Rattle.lists.specs.Promises.{ListsPersonsInCategory, ListsPersonsWith
 ghost use Rattle.sheet.specs.declared.Half.the-variants.{Nodes, Edges};
 ghost use Rattle.find.specs.Promises.{TellsPlace};
 ghost use Rattle.add.specs.Adding.{AddsNode, AddsEdge};
+ghost use Rattle.duty.specs.Promises.{DeskSteps, Traces};
 ghost use Rattle.lines.specs.Nine.{said};
 ghost use Rattle.listing.specs.Promises.{ReadsListing, WritesListing};
 ghost use Rattle.counter.specs.Filed.{asking, seeking, WasRead, afterFile, InBytes};
@@ -553,4 +556,32 @@ pub extern "C" fn tormukai_write_listing(sheet: &[u32], out: &mut [u8]) -> Listi
     ensures { λ a. ⌜ WritesListing (now (sheet .entry)) (now (out .entry)) a (now (out .exit)) ⌝ }
 {
     listing::write_listing(sheet, out)
+}
+
+// Puts a row of a trace to the duty desk's table: the answer in `value`, and in `count` how many offices its question went to. A refused row leaves the table as it was.
+#[no_mangle]
+pub extern "C" fn tormukai_step(
+    watch: &mut Watch,
+    sheet: &[u32],
+    timeout: u32,
+    row: &[u32],
+) -> Answer
+    ensures { λ a. ⌜ DeskSteps (now (sheet .entry)) timeout (now (row .entry)) (now (watch .entry)) a (now (watch .exit)) ⌝ }
+{
+    let s = duty::step_by_value(*watch, sheet, timeout, row);
+    *watch = s.watch;
+    s.answer
+}
+
+// A whole trace of the duty desk, with its own empty table: one answer for each question; how many in `count`.
+#[no_mangle]
+pub extern "C" fn tormukai_trace(
+    sheet: &[u32],
+    timeout: u32,
+    rows: &[u32],
+    out: &mut [u32],
+) -> TraceReply
+    ensures { λ a. ⌜ Traces (now (sheet .entry)) timeout (now (rows .entry)) (now (out .entry)) a (now (out .exit)) ⌝ }
+{
+    duty::trace(sheet, timeout, rows, out)
 }

@@ -51,7 +51,8 @@ use Rattle.takeout.proofs.Back.{first-taken, second-taken}
 use Rattle.demands.specs.Demands.{NoSuch, PathOf, RowPartOf, OfWords, Demand1, Demand2, Sheet, Union, JointSheet, Demand3}
 use Rattle.demands.proofs.Counting.{nodes-union, edges-union}
 use Rattle.demands.proofs.Together.{not-refusing, none-refuses, no-two-pairs, takes-out, joins-again, asked-combined, asked-within}
-use Rattle.demands.proofs.Keeping.{search-says, adding-keeps, sheet-says, lookup-says, file-says, joins-keep, files-keep, writer-keeps, shows-keep}
+use Rattle.demands.proofs.Watched.{leaves-table, tracing-keeps}
+use Rattle.demands.proofs.Keeping.{desk-says, search-says, adding-keeps, sheet-says, lookup-says, file-says, joins-keep, files-keep, writer-keeps, shows-keep}
 use Rattle.listing.specs.Printed.{printed, printFault}
 use Rattle.demands.proofs.Listed.{gives-keeps, reading-keeps}
 use Rattle.demands.proofs.Existing.{persons-some, holders-some, unreached-some, redundant-some, office-some}
@@ -182,6 +183,8 @@ demand-1 = record {
   adding = λ half s c out x. adding-keeps half s c out x;
   join = λ a b out x. joins-keep a b out x;
   join-files = λ f g out x. files-keep f g out x;
+  stepping = λ s timeout ws w w′ {a} x. (desk-says s _ _ (x .replies), leaves-table s timeout ws w w′ a x);
+  tracing = λ s timeout rows out {a} {out′} x. tracing-keeps s timeout rows out a out′ x;
   opened = as-words;
   counter-1 = λ f q x. file-says f _ _ x;
   counter-2 = λ f q x. file-says f _ _ x;

@@ -31,6 +31,7 @@ use Rattle.meaning.specs.Added.{IsAdded}
 use Rattle.find.specs.Promises.{TellsPlace}
 use Rattle.add.specs.Adding.{addFault, AddsRow, refused as not-added, short as too-little, written as was-written}
 use Rattle.add.proofs.Placing.{added-one}
+use Rattle.duty.specs.Desk.{deskFault, afterDesk}
 use Rattle.demands.specs.Demands.{saidIn, saidOf, NoSuch, Judged, by-the-table, no-such, too-short, not-refused, Keeps, KeepsTable, InFront}
 
 -- what refuses by 0 is no refusal
@@ -63,6 +64,13 @@ replies-say r P by-0 (answered v c z p) = sym (by-0 z)
 
 pub sheet-says : (s : List ℕ) (k : ℕ) (P : ℕ → ℕ → Type 0) {a : Answer} → Replies (afterSheet s k) P a → saidIn a ≡ afterSheet s k
 sheet-says s k P = replies-say (afterSheet s k) P (after-by-0 s k)
+
+desk-by-0 : (s : List ℕ) (k : ℕ) → afterDesk s k .number ≡ 0 → afterDesk s k ≡ none
+unfolding afterDesk deskFault
+desk-by-0 s k z = then-by-0 (deskFault s) (plain k) (none-by-0 k 0 0) z
+
+pub desk-says : (s : List ℕ) (k : ℕ) (P : ℕ → ℕ → Type 0) {a : Answer} → Replies (afterDesk s k) P a → saidIn a ≡ afterDesk s k
+desk-says s k P = replies-say (afterDesk s k) P (desk-by-0 s k)
 
 pub file-says : (f : List ℕ) (k : ℕ) (P : ℕ → ℕ → Type 0) {a : Answer} → Replies (afterFile f k) P a → saidIn a ≡ afterFile f k
 file-says f k P = replies-say (afterFile f k) P (file-by-0 f k)

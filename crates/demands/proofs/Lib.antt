@@ -14,3 +14,4 @@ pub mod MistakesOfRefusals
 pub mod MistakesOfAnswers
 pub mod MistakesOfJoining
 pub mod Reading
+pub mod Watched

@@ -2,12 +2,11 @@
 -- Assumes nothing.
 use Prim.Native.Nat.{ℕ, _≤_}
 use mathlib.Core.Path.{_≡_, refl, sym, ap, subst, _∙_}
-use mathlib.Core.Bool.{Bool, true, false, cond}
+use mathlib.Core.Bool.{Bool, true, false}
 use mathlib.Core.List.{List}
 use lib.Dec.{eqb}
-use lib.ListN.{length, take, drop}
-use lib.Seq.{take-at}
-use borrow.Author.Tests.{eqb-true, eqb-false, eq-eqb}
+use lib.ListN.{length, take}
+use borrow.Author.Tests.{eqb-true, eqb-false}
 use Rattle.sheet.specs.declared.Refusal.{Refusal}
 use Rattle.sheet.specs.Limits.{sheetWords}
 use Rattle.sheet.specs.Refusals.{_when_otherwise_, none, refuse, _then_, short}
@@ -15,27 +14,23 @@ use Rattle.sheet.specs.Rows.{headerOf}
 use Rattle.sheet.specs.Verdict.{verdict}
 use Rattle.sheet.proofs.Accepting.{not-refused}
 use Rattle.sheet.proofs.Refusing.{then-some-is, then-good, then-none}
-use Rattle.sheet.proofs.Writing.{short-fits}
+use Rattle.sheet.proofs.Writing.{short-fits, gives-counted, gives-front}
 use Rattle.listing.specs.declared.Listing.{Listing}
 use Rattle.listing.specs.Cut.{linesSaid}
 use Rattle.listing.specs.Faults.{nodeLines, edgeLines, listingFault}
 use Rattle.listing.specs.Printed.{printed, jointSheet, printFault}
-use Rattle.listing.specs.Promises.{refusalIn, Gives, ReadsListing, WritesListing}
+use Rattle.listing.specs.Promises.{refusalIn, GivesListing, ReadsListing, WritesListing}
 use Rattle.listing.proofs.Again.{reads-again}
 use Rattle.listing.proofs.EachRow.{line-for-each-row}
 use Rattle.listing.proofs.Reordering.{order-free}
-use Rattle.demands.specs.Demands.{Keeps, InFront, Sheet}
+use Rattle.demands.specs.Demands.{Keeps, Sheet}
 use Rattle.demands.specs.Listings.{Listings}
 use Rattle.demands.proofs.Keeping.{writer-keeps}
 
--- a reply counts what it wrote
-counted-result : (refusal : Refusal) (result out : List ℕ) (a : Listing) (out′ : List ℕ) → Gives refusal result out a out′ → a .number ≡ 0 → a .count ≡ length result
-counted-result refusal result out a out′ g z = g .count ∙ ap (λ (b : Bool). cond b (length result) 0) (eq-eqb (a .number) 0 z)
-
-pub gives-keeps : (refusal : Refusal) (result out : List ℕ) (a : Listing) (out′ : List ℕ) → Gives refusal result out a out′ → Keeps (λ x. x ≡ (refusal then short (length out) (length result))) (refusalIn a) (a .count) out out′
+pub gives-keeps : (refusal : Refusal) (result out : List ℕ) (a : Listing) (out′ : List ℕ) → GivesListing refusal result out a out′ → Keeps (λ x. x ≡ (refusal then short (length out) (length result))) (refusalIn a) (a .count) out out′
 gives-keeps refusal result out a out′ g =
     let k = writer-keeps refusal result out (g .writes) .0 in
-    record { first = k .first; no-other = k .no-other; untouched = k .untouched; only = λ z. rw (counted-result refusal result out a out′ g z) (k .only z) }
+    record { first = k .first; no-other = k .no-other; untouched = k .untouched; only = λ z. rw (gives-counted result out refusal (refusalIn a) (a .count) out′ g z) (k .only z) }
 
 -- ---- reading
 
@@ -64,10 +59,7 @@ module _ (text out : List ℕ) (a : Listing) (out′ : List ℕ) (r : ReadsListi
 
   -- the words that it counts are the sheet
   counted-sheet : a .number ≡ 0 → take (a .count) out′ ≡ r .sheet
-  counted-sheet z =
-      let o : InFront (r .sheet) out out′ = writer-keeps (listingFault text) (r .sheet) out (r .gives .writes) .1 z in
-      let n = counted-result (listingFault text) (r .sheet) out a out′ (r .gives) z in
-      (λ i. take (n i) (o i)) ∙ take-at (r .sheet) (drop (length (r .sheet)) out) (length (r .sheet)) refl
+  counted-sheet z = gives-front (r .sheet) out (listingFault text) (refusalIn a) (a .count) out′ (r .gives) z
 
   pub lines-each : a .number ≡ 0 → (headerOf (take (a .count) out′) .nodes ≡ nodeLines (linesSaid text)) × (headerOf (take (a .count) out′) .edges ≡ edgeLines (linesSaid text))
   lines-each z = let w = not-refused-then z in rw (counted-sheet z) (line-for-each-row text (r .sheet) w (r .means w))
@@ -83,7 +75,7 @@ written-whole : (s out : List ℕ) (a : Listing) (out′ : List ℕ) → Sheet 1
 written-whole s out a out′ S room w =
     let told = w .writes .told ∙ then-none (printFault s) (short (length out) (length (printed s))) (one-passes s S) ∙ short-fits (length out) (length (printed s)) room in
     let z : a .number ≡ 0 = ap (λ (r : Refusal). r .number) told in
-    (z, counted-result (printFault s) (printed s) out a out′ w z)
+    (z, gives-counted (printed s) out (printFault s) (refusalIn a) (a .count) out′ w z)
 
 pub listings : Listings
 listings =

@@ -48,6 +48,11 @@ use Rattle.takeout.specs.Promises.{TakesOut}
 use Rattle.find.specs.Promises.{TellsPlace}
 use Rattle.add.specs.Adding.{addFault, AddsRow}
 use Rattle.meaning.specs.Added.{IsAdded}
+use Rattle.watch.specs.declared.Watch.{Watch}
+use Rattle.watch.specs.Trace.{steppedOn, runFrom}
+use Rattle.duty.specs.declared.TraceReply.{TraceReply}
+use Rattle.duty.specs.Desk.{afterDesk}
+use Rattle.duty.specs.Promises.{DeskSteps, refusedTrace, Traces}
 use Rattle.listing.specs.declared.Listing.{Listing}
 use Rattle.listing.specs.Cut.{linesSaid}
 use Rattle.listing.specs.Faults.{nodeLines, edgeLines, listingFault}
@@ -145,6 +150,11 @@ pub record Demand1 : Type 0 where
   pub join : (a b out : List ℕ) {r : Joined} {out′ : List ℕ} → Joining a b out r out′ → Keeps (λ x. x ≡ joinFault a b (length out)) (saidOf r) (r .words) out out′
   -- of two files: 33 and 1 to 17 of the first, then of the second
   pub join-files : (f g out : List ℕ) {r : Joined} {out′ : List ℕ} → JoinsFiles f g out r out′ → Keeps (λ x. x ≡ filesFault f g (length out)) (saidOf r) (4 * r .words) out out′
+  -- a row put to any table of the duty desk: the sheet's, 3, 59, then the row's; a refusal leaves the table as it was
+  pub stepping : (s : List ℕ) (timeout : ℕ) (ws : List ℕ) (w w′ : Watch) {a : Answer} → DeskSteps s timeout ws w a w′ → (saidIn a ≡ afterDesk s (steppedOn w timeout ws .routed .number)) × ((a .number ≡ 0 → ⊥) → w′ ≡ w)
+  -- a whole trace: the sheet's, 3, the first row's that is refused, then 25 where the output is shorter than its questions
+  pub tracing : (s : List ℕ) (timeout : ℕ) (rows out : List ℕ) {a : TraceReply} {out′ : List ℕ} → Traces s timeout rows out a out′
+      → Keeps (λ x. x ≡ (afterDesk s (runFrom timeout [] rows .number) then short (length out) (length (runFrom timeout [] rows .questions)))) (refusedTrace a) (a .count) out out′
   -- an opened sheet, whatever its counts say, promises what the entries above do of the words that it holds
   pub opened : (which : Which) (s : List ℕ) (q : Question) (out : List ℕ) (a : Answer) (out′ : List ℕ) → Promised (questionOf which) s q out a out′ → OfWords which s q out a out′
   -- by the counter, of a file's bytes: 33 first, then the sheet's, then the question's

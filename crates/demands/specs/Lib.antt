@@ -2,3 +2,4 @@ pub mod Demands
 pub mod Listings
 pub mod Pruning
 pub mod Additions
+pub mod DutyDesk

@@ -10,7 +10,7 @@ use Rattle.listing.specs.declared.Listing.{Listing}
 use Rattle.listing.specs.Cut.{linesSaid}
 use Rattle.listing.specs.Faults.{nodeLines, edgeLines}
 use Rattle.listing.specs.Printed.{printed}
-use Rattle.listing.specs.Promises.{Gives, ReadsListing, WritesListing}
+use Rattle.listing.specs.Promises.{GivesListing, ReadsListing, WritesListing}
 use Rattle.listing.specs.Reordered.{SameLines, ReadAlike}
 use Rattle.demands.specs.Demands.{Sheet}
 
@@ -23,7 +23,7 @@ pub record Listings : Type 0 where
   pub is-written : (s out : List ℕ) {a : Listing} {out′ : List ℕ} → Sheet 1 s → length (printed s) ≤ length out → WritesListing s out a out′ → (a .number ≡ 0) × (a .count ≡ length (printed s))
   -- reading what the writer wrote gives the same sheet
   pub comes-back : (s out : List ℕ) {a : Listing} {out′ : List ℕ} → OfWords32 s → WritesListing s out a out′ → a .number ≡ 0
-      → (room : List ℕ) {b : Listing} {room′ : List ℕ} → ReadsListing (take (a .count) out′) room b room′ → Gives none s room b room′
+      → (room : List ℕ) {b : Listing} {room′ : List ℕ} → ReadsListing (take (a .count) out′) room b room′ → GivesListing none s room b room′
   -- the same lines in another order are read as the same sheet, or refused both
   pub any-order : (text text′ out : List ℕ) → SameLines text text′ → {a b : Listing} {o o′ : List ℕ} → ReadsListing text out a o → ReadsListing text′ out b o′ → ReadAlike out a b o o′
   -- a text that is read has a node line for each node and an edge line for each edge, no more

@@ -20,7 +20,7 @@ use Rattle.sheet.specs.Stored.{headerSix}
 use Rattle.sheet.proofs.Accepting.{or-false}
 use Rattle.sheet.proofs.Built.{built-long}
 use Rattle.sheet.proofs.Refusing.{taken, line-none, refuse-some, refuse-none}
-use Rattle.sheet.proofs.Writing.{writes-all}
+use Rattle.sheet.proofs.Writing.{gives-short, gives-written, gives-as}
 use Rattle.lines.specs.declared.Line.{Line}
 use Rattle.lines.specs.Naming.{isNodeLine, fromLine, toLine, lineKey}
 use Rattle.sorting.specs.Sorted.{mostSorted}
@@ -31,8 +31,7 @@ use Rattle.listing.specs.Faults.{saysThis, nodeLines, edgeLines, countFa
 use Rattle.listing.specs.Laying.{keyIn, firstEdge, tooMany, RowWords, ReadsGood, too-long, too-many, too-short, laid}
 use Rattle.listing.specs.LineByLine.{LooksThrough, Tabled, lacksEnd}
 use Rattle.listing.specs.Meant.{Means}
-use Rattle.listing.specs.Promises.{ReadsListing}
-use Rattle.listing.proofs.Giving.{gives-short, gives-as}
+use Rattle.listing.specs.Promises.{refusalIn, ReadsListing}
 use Rattle.listing.proofs.MeantSheet.{Faultless, node-words-there, edge-words-there, node-count, edge-count, t-means}
 use Rattle.listing.proofs.Unrefused.{text-line-good}
 use Rattle.listing.proofs.Refused.{own-good, none-but-4, both-halves, over-sorted, refuses-text}
@@ -124,7 +123,7 @@ module _ (text : List ℕ) (s : FirstFault) (L : LooksThrough (linesSaid text) s
         record {
           sheet = headerSix 1 1 n (length ls - n) ++ wn .0 ++ we .0;
           means = λ z. meant few n N h (wn .0) (we .0) (wn .1) (we .1);
-          gives = gives-as none (listingFault text) _ out out a (not-refused (sym (counts few n N) ∙ h)) (gives-short _ out a (sheetWords 1 n (s .count - n)) size short refl);
+          gives = gives-as none (listingFault text) _ out (refusalIn a) (a .count) out (not-refused (sym (counts few n N) ∙ h)) (gives-short _ out (omega (arith, size, short)));
         }
     read-good-done a out′ (laid n o few N h room S) =
         let WE : RowWords Edges rows order n (length ls - n) (S .edge-words) = subst (λ (m : ℕ). RowWords Edges rows order n (m - n) (S .edge-words)) all-looked (S .edges) in
@@ -132,6 +131,6 @@ module _ (text : List ℕ) (s : FirstFault) (L : LooksThrough (linesSaid text) s
         record {
           sheet = headerSix 1 1 n (length ls - n) ++ S .node-words ++ S .edge-words;
           means = λ z. meant few n N h (S .node-words) (S .edge-words) (S .nodes) WE;
-          gives = gives-as none (listingFault text) _ out out′ a (not-refused (sym (counts few n N) ∙ h))
-              (record { writes = writes-all _ out out′ (omega (arith, size)) (S .holds ∙ ap (λ (m : ℕ). (headerSix 1 1 n (m - n) ++ S .node-words ++ S .edge-words) ++ drop (length (headerSix 1 1 n (m - n) ++ S .node-words ++ S .edge-words)) out) all-looked); count = size });
+          gives = gives-as none (listingFault text) _ out (refusalIn a) (a .count) out′ (not-refused (sym (counts few n N) ∙ h))
+              (gives-written _ out out′ _ size room (S .holds ∙ ap (λ (m : ℕ). (headerSix 1 1 n (m - n) ++ S .node-words ++ S .edge-words) ++ drop (length (headerSix 1 1 n (m - n) ++ S .node-words ++ S .edge-words)) out) all-looked));
         }

@@ -16,6 +16,7 @@ use Rattle.sheet.specs.declared.Refusal.{Refusal}
 use Rattle.sheet.specs.Limits.{maxNodes, maxEdges}
 use Rattle.sheet.specs.Refusals.{none, refuse, firstRow, _orElse_}
 use Rattle.sheet.proofs.Refusing.{refuse-some, refuse-none, then-some-is, then-none-is, else-good, else-none, else-some, line-good, line-none, rows-none, taken, left}
+use Rattle.sheet.proofs.Writing.{gives-refused, gives-as}
 use Rattle.lines.specs.declared.Line.{Line}
 use Rattle.lines.specs.Naming.{isNodeLine, withinItself, lineKey, sameLine}
 use Rattle.listing.specs.declared.FirstFault.{FirstFault}
@@ -25,8 +26,8 @@ use Rattle.listing.specs.Faults.{saysThis, lineFault, endFault, nodeLine
 use Rattle.sorting.specs.Sorted.{mostSorted}
 use Rattle.listing.specs.Laying.{tooMany}
 use Rattle.listing.specs.LineByLine.{ownFault, LooksThrough, lacksEnd}
-use Rattle.listing.specs.Promises.{Gives, ReadsListing}
-use Rattle.listing.proofs.Giving.{replyRefused, gives-refused}
+use Rattle.listing.specs.Promises.{GivesListing, ReadsListing}
+use Rattle.listing.proofs.Giving.{replyRefused}
 
 -- ---- the first row that has a number
 
@@ -155,7 +156,7 @@ refuses-text text out v a e h q =
     record {
       sheet = [];
       means = λ z. absurd (h (ap (λ (x : Refusal). x .number) e ∙ z));
-      gives = subst (λ (x : Refusal). Gives x [] out a out) e (gives-refused [] out a v h q);
+      gives = subst (λ (b : Listing). GivesListing (listingFault text) [] out b out) (sym q) (gives-as v (listingFault text) [] out v 0 out e (gives-refused [] out v h));
     }
 
 -- ---- how many

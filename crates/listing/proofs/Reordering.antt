@@ -14,8 +14,8 @@ use Rattle.tables.proofs.Counts.{many-next, many-none, many-rises, some-none}
 use Rattle.tables.proofs.Keys.{same-refl, same-eq, eq-same}
 use Rattle.sheet.specs.Limits.{maxNodes, maxEdges}
 use Rattle.sheet.specs.declared.Refusal.{Refusal}
-use Rattle.sheet.specs.Refusals.{_is_, _below_, _when_otherwise_, none, written}
-use Rattle.sheet.proofs.Refusing.{then-good}
+use Rattle.sheet.specs.Refusals.{_is_, _below_, _when_otherwise_, none}
+use Rattle.sheet.proofs.Writing.{gives-refused, gives-one, gives-as}
 use Rattle.lines.specs.declared.Line.{Line}
 use Rattle.lines.specs.Nine.{characters}
 use Rattle.lines.specs.Naming.{isNodeLine, fromLine, toLine, sameLine, lineKey}
@@ -24,9 +24,9 @@ use Rattle.listing.specs.Cut.{begun, eachSaid, unended, cutUp, linesSaid
 use Rattle.listing.specs.Faults.{saysThis, nodeLines, edgeLines, countFault, listingFault}
 use Rattle.listing.specs.LineByLine.{ownFault, lacksEnd}
 use Rattle.listing.specs.Meant.{someLine, namesNode, namesEdge, Means}
-use Rattle.listing.specs.Promises.{Gives, ReadsListing}
+use Rattle.listing.specs.Promises.{refusalIn, GivesListing, ReadsListing}
 use Rattle.listing.specs.Reordered.{Reordered, empty, behind, exchanged, onward, SameLines, ReadAlike, both-refuse, the-same}
-use Rattle.listing.proofs.Giving.{gives-one}
+use Rattle.listing.proofs.Giving.{listing-one}
 use Rattle.listing.proofs.Meaning.{means-one}
 use Rattle.listing.proofs.Unrefused.{Unrefused, false-at, unrefused, unrefused-none}
 
@@ -170,18 +170,13 @@ module _ (text text′ : List ℕ) (r : SameLines text text′) where
 module _ (text out : List ℕ) (a : Listing) (o : List ℕ) (x : ReadsListing text out a o) where
   -- a refused text: the reply is a refusal, and nothing is written
   text-refused : (listingFault text .number ≡ 0 → ⊥) → (a .number ≡ 0 → ⊥) × (o ≡ out)
-  unfolding written
   text-refused h =
-      let n : a .number ≡ 0 → ⊥ = λ z. h (then-good (listingFault text) _ (ap (λ (v : Refusal). v .number) (sym (x .gives .writes .told)) ∙ z) .0) in
-      (n, x .gives .writes .holds ∙ unwritten (a .number) (x .sheet) n)
-    where
-      unwritten : (k : ℕ) (s : List ℕ) → (k ≡ 0 → ⊥) → written k s out ≡ out
-      unwritten zero s h = absurd (h refl)
-      unwritten (suc k) s h = refl
+      let w = gives-one (x .sheet) out (listingFault text) (refusalIn a) (listingFault text) (a .count) 0 o out (x .gives) (gives-refused (x .sheet) out (listingFault text) h) in
+      (λ z. h (ap (λ (v : Refusal). v .number) (sym (w .0)) ∙ z), w .2)
 
   -- a text that is read: the reply and the output are those of its sheet
-  text-read : listingFault text .number ≡ 0 → Gives none (x .sheet) out a o
-  text-read e = subst (λ (v : Refusal). Gives v (x .sheet) out a o) (unrefused-none _ (unrefused _ e)) (x .gives)
+  text-read : listingFault text .number ≡ 0 → GivesListing none (x .sheet) out a o
+  text-read e = gives-as _ _ (x .sheet) out (refusalIn a) (a .count) o (unrefused-none _ (unrefused _ e)) (x .gives)
 
 -- two texts with the same lines in another order, read into the same output: both are refused, or the reply and the output are the same
 pub order-free : (text text′ out : List ℕ) → SameLines text text′ → (a b : Listing) (o o′ : List ℕ) → ReadsListing text out a o → ReadsListing text′ out b o′ → ReadAlike out a b o o′
@@ -191,7 +186,7 @@ order-free text text′ out r a b o o′ x y = go (ℕ-discrete (listingFault te
     go (yes e) =
         let e′ = order-refuses text text′ r e in
         let s : x .sheet ≡ y .sheet = means-one (linesSaid text′) (x .sheet) (y .sheet) (order-means text text′ r (x .sheet) (x .means e)) (y .means e′) in
-        let g = gives-one none (y .sheet) out a b o o′ (subst (λ (w : List ℕ). Gives none w out a o) s (text-read text out a o x e)) (text-read text′ out b o′ y e′) in
+        let g = listing-one none (y .sheet) out a b o o′ (subst (λ (w : List ℕ). GivesListing none w out a o) s (text-read text out a o x e)) (text-read text′ out b o′ y e′) in
         the-same (g .0) (g .1)
     go (no h) =
         let u = text-refused text out a o x h in

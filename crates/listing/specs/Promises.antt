@@ -2,11 +2,9 @@
 -- Assumes nothing.
 use Prim.Native.Nat.{ℕ}
 use mathlib.Core.Path.{_≡_}
-use mathlib.Core.Bool.{cond}
 use mathlib.Core.List.{List}
-use lib.ListN.{length}
 use Rattle.sheet.specs.declared.Refusal.{Refusal}
-use Rattle.sheet.specs.Refusals.{_is_, Writes}
+use Rattle.sheet.specs.Refusals.{Gives}
 use Rattle.listing.specs.declared.Listing.{Listing}
 use Rattle.listing.specs.Cut.{linesSaid}
 use Rattle.listing.specs.Faults.{listingFault}
@@ -18,16 +16,15 @@ abbrev pub refusalIn : Listing → Refusal
 refusalIn a = record { number = a .number; sheet = a .sheet; row = a .row }
 
 -- a result is written, or 25, or what refuses it; the reply counts what was written
-pub record Gives (refusal : Refusal) (result out : List ℕ) (a : Listing) (out′ : List ℕ) : Type 0 where
-  pub writes : Writes refusal result out (refusalIn a) out′
-  pub count : a .count ≡ cond (a .number is 0) (length result) 0
+abbrev pub GivesListing : Refusal → List ℕ → List ℕ → Listing → List ℕ → Type 0
+GivesListing refusal result out a out′ = Gives refusal result out (refusalIn a) (a .count) out′
 
 -- reading a text: where nothing refuses it, the sheet that its lines mean
 pub record ReadsListing (text out : List ℕ) (a : Listing) (out′ : List ℕ) : Type 0 where
   pub sheet : List ℕ
   pub means : listingFault text .number ≡ 0 → Means (linesSaid text) sheet
-  pub gives : Gives (listingFault text) sheet out a out′
+  pub gives : GivesListing (listingFault text) sheet out a out′
 
 -- writing a sheet as a listing
 abbrev pub WritesListing : List ℕ → List ℕ → Listing → List ℕ → Type 0
-WritesListing s out a out′ = Gives (printFault s) (printed s) out a out′
+WritesListing s out a out′ = GivesListing (printFault s) (printed s) out a out′

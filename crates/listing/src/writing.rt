@@ -14,7 +14,7 @@ ghost use Rattle.sheet.specs.Refusals.{none, refuse};
 ghost use Rattle.sheet.specs.Rows.{headerOf, edgeTable, countIn};
 ghost use Rattle.lines.specs.Nine.{lineText, lineRoom};
 ghost use Rattle.listing.specs.Printed.{lineOfEdge, rowLine, printedLines, printed, jointSheet, PutsIfRoom};
-ghost use Rattle.listing.specs.Promises.{Gives, WritesListing};
+ghost use Rattle.listing.specs.Promises.{GivesListing, WritesListing};
 
 // The line of an edge row between two nodes.
 fn edge_line(kind: u32, from: Node, to: Node) -> Line
@@ -118,7 +118,7 @@ fn unwritten(number: u32, sheet: u32, row: u32) -> Listing
 // Writes the lines of a sheet that was checked. They are first measured, in a text too short for any of them, as 25 writes nothing.
 fn write_lines(sheet: &[u32], h: Header, out: &mut [u8]) -> Listing
     requires { ⌜ WellFormed (now sheet) (edgeTable (now sheet)) h ⌝ }
-    ensures { λ a. ⌜ Gives none (printed (now (sheet .entry))) (now (out .entry)) a (now (out .exit)) ⌝ }
+    ensures { λ a. ⌜ GivesListing none (printed (now (sheet .entry))) (now (out .entry)) a (now (out .exit)) ⌝ }
 {
     let mut scrap = [0u8; 1];
     let size = put_sheet(sheet, h, &mut scrap);
@@ -137,7 +137,7 @@ fn write_lines(sheet: &[u32], h: Header, out: &mut [u8]) -> Listing
 // Writes a sheet that was checked: one of two offices is refused.
 fn write_checked(sheet: &[u32], h: Header, out: &mut [u8]) -> Listing
     requires { ⌜ WellFormed (now sheet) (edgeTable (now sheet)) h ⌝ }
-    ensures { λ a. ⌜ Gives (refuse (jointSheet (headerOf (now (sheet .entry)))) 1 0 none) (printed (now (sheet .entry))) (now (out .entry)) a (now (out .exit)) ⌝ }
+    ensures { λ a. ⌜ GivesListing (refuse (jointSheet (headerOf (now (sheet .entry)))) 1 0 none) (printed (now (sheet .entry))) (now (out .entry)) a (now (out .exit)) ⌝ }
 {
     if h.offices != 1 {
         return unwritten(28, 1, 0);

@@ -13,17 +13,14 @@ use Rattle.tables.specs.Marks.{within}
 use Rattle.tables.proofs.Keys.{rises}
 use Rattle.tables.proofs.Marks.{within-trans, within-most}
 use Rattle.sheet.specs.declared.Cells.{Cells}
-use Rattle.sheet.specs.declared.Edge.{Edge}
 use Rattle.sheet.specs.declared.Half.{Half}
 use Rattle.sheet.specs.declared.Half.the-variants.{Nodes, Edges}
 use Rattle.sheet.specs.declared.Header.{Header}
-use Rattle.sheet.specs.declared.Node.{Node}
-use Rattle.sheet.specs.Limits.{edgePlace}
-use Rattle.sheet.specs.Rows.{headerOf, nodeAt, edgeAt, edgeOf, edgeTable, nodeKey, edgeKey, nodeKeyAt, edgeKeyAt, cellsIn, cellsAt, rowPlace}
-use Rattle.sheet.specs.Accepted.{NodeFits, EdgeShaped, EdgeFits, RowsRise, Accepted}
+use Rattle.sheet.specs.Rows.{headerOf, edgeOf, edgeTable, edgeKeyAt, cellsIn, cellsAt, rowPlace, rowKey}
+use Rattle.sheet.specs.Accepted.{Accepted}
 use Rattle.sheet.specs.Named.{nodeRow, edgeRow}
 use Rattle.sheet.specs.Stored.{stored}
-use Rattle.sheet.proofs.Built.{built, built-header, built-fits, built-table, built-node, built-edge}
+use Rattle.sheet.proofs.Built.{built, built-header, RowsFit, built-accepted, built-node-row, built-edge-row}
 use Rattle.sheet.proofs.Storing.{stored-long, cells-kept, cells-new}
 use Rattle.sheet.proofs.Widths.{place-start, place-next, place-before}
 
@@ -81,85 +78,57 @@ module _ (s : List ℕ) (v : Accepted s) (e : ℕ) (from marks : ℕ → ℕ) (f
   abbrev t : List ℕ
   t = built form (headerOf s .offices) n e (N .words) (E .words) (N .long) (E .long)
 
+  -- what is asked of a row is asked of row `from u`, but for its marks
+  fits : RowsFit form (headerOf s .offices) n e (N .words) (E .words) (N .long) (E .long)
+  fits =
+      let h = v .nodes .header in
+      record {
+        form-is = h .form;
+        low = h .offices-low;
+        high = h .offices-high;
+        few-nodes = h .nodes;
+        few-edges = omega (arith, few, h .edges);
+        nodes-fit = λ i l. let f = v .nodes .fit i l in
+            rw (N .each i l) (record { class-low = f .class-low; class-high = f .class-high; number = f .number; variant = f .variant; marks = record { some = f .marks .some; high = f .marks .high } });
+        nodes-rise = λ i l. ap₂ (λ (x y : Cells). belowKey (rowKey x) (rowKey y)) (N .each i (omega arith)) (N .each (i + 1) l) ∙ v .nodes .rise i l;
+        edges-shaped = λ u l. let p = v .edges .shaped (from u) (inside u l) in
+            rw (E .each u l) (record { kind-low = p .kind-low; kind-high = p .kind-high; from = p .from; to = p .to });
+        edges-fit = λ u l. let p = v .edges .shaped (from u) (inside u l) in
+            let f = v .edges .fit (from u) (inside u l) in
+            let m = less u l in
+            rw (E .each u l, N .each (edgeOf s (from u) .from) (p .from), N .each (edgeOf s (from u) .to) (p .to))
+            (record {
+              ends = f .ends;
+              apart = f .apart;
+              marks = record { some = some u l; high = omega (arith, within-most (marks u) _ m, f .marks .high) };
+              in-from = within-trans (marks u) _ _ m (f .in-from);
+              in-to = within-trans (marks u) _ _ m (f .in-to);
+            });
+        edges-rise = λ u l.
+            ap₂ (λ (x y : Cells). belowKey (rowKey x) (rowKey y)) (E .each u (omega arith)) (E .each (u + 1) l)
+            ∙ rises (edgeKeyAt (headerOf s) (edgeTable s)) (headerOf s .edges) (v .edges .rise) (from u) (from (u + 1)) (up u l) (inside (u + 1) l);
+      }
+
   head : headerOf t ≡ record { form = form; offices = headerOf s .offices; nodes = n; edges = e; nodeoffset = 6; edgeoffset = 6 + 4 * n }
   head = built-header form (headerOf s .offices) n e (N .words) (E .words) (N .long) (E .long)
 
-  table : edgeTable t ≡ E .words
-  table = built-table form (headerOf s .offices) n e (N .words) (E .words) (N .long) (E .long)
-
-  same-node : (i : ℕ) → i < n → nodeAt t i ≡ nodeAt s i
-  same-node i l = built-node form (headerOf s .offices) n e (N .words) (E .words) (N .long) (E .long) i l ∙ ap (λ (c : Cells). record { class = c .first; number = c .second; variant = c .third; offices = c .offices }) (N .each i l)
-
-  edge-is : (u : ℕ) → u < e → edgeAt (headerOf t) (E .words) u ≡ record { kind = edgeOf s (from u) .kind; from = edgeOf s (from u) .from; to = edgeOf s (from u) .to; offices = marks u }
-  edge-is u l = built-edge form (headerOf s .offices) n e (N .words) (E .words) (N .long) (E .long) u ∙ ap (λ (c : Cells). record { kind = c .first; from = c .second; to = c .third; offices = c .offices }) (E .each u l)
-
-  -- what is asked of a row is asked of row `from u`, but for its marks
-  edge-fits : (u : ℕ) → u < e → EdgeFits (headerOf t) (edgeAt (headerOf t) (E .words) u) (nodeAt t (edgeAt (headerOf t) (E .words) u .from)) (nodeAt t (edgeAt (headerOf t) (E .words) u .to))
-  edge-fits u l =
-      let p = v .edges .shaped (from u) (inside u l) in
-      let f = v .edges .fit (from u) (inside u l) in
-      let m = less u l in
-      rw (edge-is u l, same-node (edgeOf s (from u) .from) (p .from), same-node (edgeOf s (from u) .to) (p .to), head)
-      (record {
-        ends = f .ends;
-        apart = f .apart;
-        marks = record { some = some u l; high = omega (arith, within-most (marks u) _ m, f .marks .high) };
-        in-from = within-trans (marks u) _ _ m (f .in-from);
-        in-to = within-trans (marks u) _ _ m (f .in-to);
-      })
-
-  edges-higher : RowsRise (edgeKeyAt (headerOf t) (E .words)) e
-  edges-higher u l =
-      ap₂ (λ (x y : Edge). belowKey (edgeKey x) (edgeKey y)) (edge-is u (omega arith)) (edge-is (u + 1) l)
-      ∙ rises (edgeKeyAt (headerOf s) (edgeTable s)) (headerOf s .edges) (v .edges .rise) (from u) (from (u + 1)) (up u l) (inside (u + 1) l)
-
-  t-nodes : headerOf t .nodes ≡ n
-  t-nodes = ap (λ (h : Header). h .nodes) head
-
-  t-edges : headerOf t .edges ≡ e
-  t-edges = ap (λ (h : Header). h .edges) head
-
-  node-fits : (i : ℕ) → i < n → NodeFits (headerOf t) (nodeAt t i)
-  node-fits i l =
-      let f = v .nodes .fit i l in
-      rw (same-node i l, head) (record { class-low = f .class-low; class-high = f .class-high; number = f .number; variant = f .variant; marks = record { some = f .marks .some; high = f .marks .high } })
-
-  nodes-higher : RowsRise (nodeKeyAt t) n
-  nodes-higher i l = ap₂ (λ (x y : Node). belowKey (nodeKey x) (nodeKey y)) (same-node i (omega arith)) (same-node (i + 1) l) ∙ v .nodes .rise i l
-
-  shaped : (u : ℕ) → u < e → EdgeShaped (headerOf t) (edgeAt (headerOf t) (E .words) u)
-  shaped u l =
-      let p = v .edges .shaped (from u) (inside u l) in
-      rw (edge-is u l, head) (record { kind-low = p .kind-low; kind-high = p .kind-high; from = p .from; to = p .to })
-
-  fewer-accepted : Accepted t
-  fewer-accepted =
-      let h = v .nodes .header in
-      record {
-        head = refl;
-        table = refl;
-        nodes = record {
-          header = built-fits form (headerOf s .offices) n e (N .words) (E .words) (N .long) (E .long) (h .form) (h .offices-low) (h .offices-high) (h .nodes) (omega (arith, few, h .edges));
-          fit = λ i l. node-fits i (omega (arith, t-nodes));
-          rise = λ i l. nodes-higher i (omega (arith, t-nodes));
-        };
-        edges = rw table (record {
-          room = omega (arith, E .long, ap (λ (x : Header). edgePlace (x .form) (x .edges)) head);
-          shaped = λ u l. shaped u (omega (arith, t-edges));
-          fit = λ u l. edge-fits u (omega (arith, t-edges));
-          rise = λ u l. edges-higher u (omega (arith, t-edges));
-        });
-      }
-
   node-row : (i : ℕ) → i < n → nodeRow t i ≡ nodeRow s i
   unfolding nodeRow
-  node-row i l = ap (λ (x : Node). record { key = nodeKey x; marks = x .offices }) (same-node i l)
+  node-row i l = built-node-row form (headerOf s .offices) n e (N .words) (E .words) (N .long) (E .long) fits i l ∙ ap (λ (x : Cells). record { key = rowKey x; marks = x .offices }) (N .each i l)
 
   edge-row : (u : ℕ) → u < e → edgeRow t (edgeTable t) u ≡ record { key = edgeRow s (edgeTable s) (from u) .key; marks = marks u }
   unfolding edgeRow
   edge-row u l =
       let p = v .edges .shaped (from u) (inside u l) in
-      rw (table, edge-is u l, same-node (edgeOf s (from u) .from) (p .from), same-node (edgeOf s (from u) .to) (p .to)) refl
+      built-edge-row form (headerOf s .offices) n e (N .words) (E .words) (N .long) (E .long) fits u l ∙ rw (E .each u l, N .each (edgeOf s (from u) .from) (p .from), N .each (edgeOf s (from u) .to) (p .to)) refl
 
   pub fewer-rows : (t : List ℕ) × EdgesFrom s e from marks t
-  fewer-rows = (t, record { accepted = fewer-accepted; offices = ap (λ (h : Header). h .offices) head; nodes = (t-nodes, node-row); edges = (t-edges, edge-row) })
+  fewer-rows = (
+    t,
+    record {
+      accepted = built-accepted form (headerOf s .offices) n e (N .words) (E .words) (N .long) (E .long) fits;
+      offices = ap (λ (h : Header). h .offices) head;
+      nodes = (ap (λ (h : Header). h .nodes) head, node-row);
+      edges = (ap (λ (h : Header). h .edges) head, edge-row);
+    },
+  )

@@ -1,5 +1,6 @@
 // Puts any input to every public function, for a program outside: requests on standard input, a reply to each on standard output.
 // The trial program's page in docs/TRIAL.md has the form of both.
+use duty::TraceReply;
 use join::Joined;
 use libc::STDIN_FILENO;
 use libc::STDOUT_FILENO;
@@ -11,7 +12,7 @@ use sheet::Edge;
 use sheet::Node;
 use sheet::Refusal;
 ghost use mathlib.Core.Path.{_≡_};
-ghost use Prim.Native.Nat.{_*_, _≤_};
+ghost use Prim.Native.Nat.{_+_, _*_, _^_, _<_, _≤_};
 ghost use lib.ListN.{length, replicate};
 
 // The longest payload in bytes, and the longest output in words.
@@ -207,6 +208,81 @@ fn listed(a: Listing) -> Reply {
     }
 }
 
+// The reply of a whole trace. The questions of a payload fit a word.
+fn traced(a: TraceReply) -> Reply {
+    Reply {
+        number: a.number,
+        sheet: a.sheet,
+        row: a.row,
+        value: 0,
+        count: (a.count % 4294967296) as u32,
+        extra: 0,
+        further: 0,
+    }
+}
+
+// The end of the row that starts at a word: a last row may be cut short.
+fn row_end(rows: &[u32], at: usize) -> usize
+    requires { ⌜ at < length (now rows) ⌝ }
+    ensures { λ r. ⌜ (at < r) × (r ≤ length (now (rows .entry))) ⌝ }
+{
+    if rows.len() - at < 5 {
+        rows.len()
+    } else {
+        at + 5
+    }
+}
+
+// Writes a step's answer, where its row asks and there is room for it, and counts it.
+fn put_told(out: &mut [u32], at: usize, a: Answer) -> usize
+    requires { ⌜ at + 1 < 2 ^ 64 ⌝ }
+    ensures { λ r. ⌜ (r ≤ at + 1) × (length (now (out .exit)) ≡ length (now (out .entry))) ⌝ }
+{
+    if a.count == 0 {
+        return at;
+    }
+    if at < out.len() {
+        out[at] = a.value;
+        return at + 1;
+    }
+    at + 1
+}
+
+// The reply of steps: the last answer's refusal, how many rows were taken, and how many asked.
+fn stepped(a: Answer, taken: usize, count: usize) -> Reply {
+    Reply {
+        number: a.number,
+        sheet: a.sheet,
+        row: a.row,
+        value: (taken % 4294967296) as u32,
+        count: (count % 4294967296) as u32,
+        extra: 0,
+        further: 0,
+    }
+}
+
+// Operation 37: rows put to one table, which was empty at first, until one is refused.
+fn step_words(timeout: u32, sheet: &[u32], rows: &[u32], out: &mut [u32]) -> Reply {
+    let mut w = watch::empty_watch();
+    let mut i: usize = 0;
+    let mut taken: usize = 0;
+    let mut count: usize = 0;
+    while i < rows.len() {
+        let end = row_end(rows, i);
+        let s = duty::lend_and_step(w, sheet, timeout, &rows[i..end]);
+        let a = s.answer;
+        if a.number != 0 {
+            return stepped(a, taken, count);
+        }
+        count = put_told(out, count, a);
+        let next = s.watch;
+        w = next;
+        taken += 1;
+        i = end;
+    }
+    stepped(question::told(0, 0), taken, count)
+}
+
 // Operation 31: the text's bytes, four to a word of the output.
 fn write_text(sheet: &[u32], out: &mut [u32]) -> Listing
     requires { ⌜ length (now out) ≤ 40000 ⌝ }
@@ -314,6 +390,8 @@ fn answer<'a>(
         20 => reply_of_refusal(files::check_bytes(file)),
         30 => listed(listing::read_listing(file, out)),
         31 => listed(write_text(first, out)),
+        36 => traced(duty::trace(first, q.a1, second, out)),
+        37 => step_words(q.a1, first, second, out),
         _ => reply_of_refusal(Refusal {
             number: 4294967295,
             sheet: 0,

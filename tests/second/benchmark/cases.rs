@@ -12,8 +12,10 @@ use crate::model::listing::{lines, typed};
 use crate::model::office::{Office, Side};
 use crate::model::sheet::{bytes_of, node_rows, Sheet, APPLIES, FOLIO, MEMBER, PERSON};
 use crate::model::survey::*;
+use crate::model::trace::{END, MOST_HELD, QUESTION, START};
 use crate::trial::operation::{
-    ADD_EDGE, ADD_NODE, CHECK_WORDS, FIND_EDGE, FIND_NODE, READ_LISTING, WRITE_LISTING,
+    ADD_EDGE, ADD_NODE, CHECK_WORDS, FIND_EDGE, FIND_NODE, READ_LISTING, STEPS, TRACE,
+    WRITE_LISTING,
 };
 use crate::trial::request::Request;
 
@@ -21,7 +23,7 @@ use crate::trial::request::Request;
 const ROOM: usize = MOST_EDGES;
 
 /// Each operation and what a reader calls it.
-pub const OPERATIONS: [(u32, &str); 17] = [
+pub const OPERATIONS: [(u32, &str); 19] = [
     (CHECK_WORDS, "check"),
     (ANSWER, "1, answer"),
     (JOINT, "2, joint answer"),
@@ -39,7 +41,15 @@ pub const OPERATIONS: [(u32, &str); 17] = [
     (FIND_EDGE, "an edge searched"),
     (ADD_NODE, "a node added"),
     (ADD_EDGE, "an edge added"),
+    (TRACE, "a trace of 100 rows"),
+    (STEPS, "its 100 steps"),
 ];
+
+/// Minutes for which a start of the trace holds its folio.
+const TIMEOUT: u32 = 60;
+
+/// The rows of the trace: 32 starts, 67 questions while the folio is open, and an end.
+const ROWS: usize = 100;
 
 pub fn work_of(operation: u32) -> Work {
     match operation {
@@ -50,10 +60,10 @@ pub fn work_of(operation: u32) -> Work {
     }
 }
 
-/// The joint answer is asked of two offices that both know the whole sheet.
+/// The joint answer and the trace are asked of two offices that both know the whole sheet.
 pub fn request(operation: u32, shape: Shape) -> Request {
     let work = work_of(operation);
-    let office_count = if operation == JOINT { 2 } else { 1 };
+    let office_count = if matches!(operation, JOINT | TRACE | STEPS) { 2 } else { 1 };
     let full = sheet(work, shape, office_count);
     let words = match operation {
         ADD_NODE => without_first_node(full).words(),
@@ -63,6 +73,7 @@ pub fn request(operation: u32, shape: Shape) -> Request {
     let numbers = numbers(operation, last_category(work, shape), first_category(&words));
     let second = match operation {
         LISTED => longest_path(&words, &numbers),
+        TRACE | STEPS => bytes_of(&trace_rows()),
         _ => Vec::new(),
     };
     let first = match operation {
@@ -75,6 +86,13 @@ pub fn request(operation: u32, shape: Shape) -> Request {
         _ => ROOM,
     };
     Request { operation, numbers, first, second, out_len, fill: 0 }
+}
+
+/// The table is full, and each question is question 1's, at the office that is asked first.
+fn trace_rows() -> Vec<u32> {
+    let starts = (1..=MOST_HELD as u32).map(|folio| [0, START, folio, 0, 0]);
+    let questions = std::iter::repeat([1, QUESTION, 1, 1, 1]).take(ROWS - MOST_HELD - 1);
+    starts.chain(questions).chain([[1, END, 1, 0, 0]]).flatten().collect()
 }
 
 /// The row of the first category.
@@ -132,6 +150,7 @@ fn numbers(operation: u32, last_category: u32, first_category: u32) -> [u32; 6] 
         FIND_EDGE => [APPLIES, last - 1, last, 0, 0, 0],
         ADD_NODE => [PERSON, 1, 0, 1, 0, 0],
         ADD_EDGE => [MEMBER, 0, first_category, 1, 0, 0],
+        TRACE | STEPS => [TIMEOUT, 0, 0, 0, 0, 0],
         _ => [1, 0, 0, 0, 0, 0],
     }
 }

@@ -1,15 +1,15 @@
 //! What is put to the trial, case by case. A case of a check follows from the
 //! seed and its number alone; the questions come after the checks, 5 to 10 after
 //! 1 to 4, then the lookup, then joining and taking out, then the other ways to
-//! questions 1 to 3, then the listings, then rows searched and added, then sheets built
-//! row by row, then the removals, so their numbers follow from how many there are before
-//! them.
+//! questions 1 to 3, then the listings, then rows searched and added, then traces, then
+//! sheets built row by row, then the removals, so their numbers follow from how many there
+//! are before them.
 
 use crate::cases::built::{self, Built};
 use crate::cases::checks::Checks;
 use crate::cases::removals::{self, Removals};
 use crate::cases::series::{Made, Series};
-use crate::cases::{additions, joins, listings, lookups, questions, surveys, ways};
+use crate::cases::{additions, joins, listings, lookups, questions, surveys, traces, ways};
 use crate::goals;
 use crate::goals::coverage::{self, Cell};
 use crate::trial::expect::expect;
@@ -47,8 +47,9 @@ pub struct Case {
 
 /// How many random cases there are: of the checks, of questions 1 to 4, of 5 to
 /// 10, of the lookup, of joining and taking out, of the other ways to questions 1
-/// to 3, of the listings, and of rows searched and added; and how many sheets are built
-/// row by row, and how many have edges removed.
+/// to 3, of the listings, and of rows searched and added; how many traces there are, each
+/// of which is two cases; how many sheets are built row by row, and how many have edges
+/// removed.
 #[derive(Clone, Copy, Default)]
 pub struct Counts {
     pub checks: usize,
@@ -59,6 +60,7 @@ pub struct Counts {
     pub ways: usize,
     pub listings: usize,
     pub additions: usize,
+    pub traces: usize,
     pub built: usize,
     pub removals: usize,
 }
@@ -75,6 +77,7 @@ impl Counts {
             ways: each,
             listings: each,
             additions: each,
+            traces: each.div_ceil(traces::LEGS),
             built: each.div_ceil(built::ASKED),
             removals: each.div_ceil(removals::ASKED),
         }
@@ -87,13 +90,14 @@ impl Counts {
         Counts {
             checks: share(11),
             questions: share(17),
-            surveys: share(20),
+            surveys: share(18),
             lookups: share(5),
             joins: share(10),
             ways: share(12),
-            listings: share(11),
-            additions: share(6),
-            built: share(3).div_ceil(built::ASKED),
+            listings: share(9),
+            additions: share(5),
+            traces: share(6).div_ceil(traces::LEGS),
+            built: share(2).div_ceil(built::ASKED),
             removals: share(5).div_ceil(removals::ASKED),
         }
     }
@@ -102,8 +106,8 @@ impl Counts {
 pub struct Plan {
     checks: Checks,
     /// Questions 1 to 4, 5 to 10, the lookup, joining and taking out, the other ways,
-    /// the listings, rows searched and added.
-    series: [Series; 7],
+    /// the listings, rows searched and added, traces.
+    series: [Series; 8],
     built: Built,
     pub removals: Removals,
 }
@@ -120,6 +124,7 @@ impl Plan {
                 ways::series(seed, counts.ways),
                 listings::series(seed, counts.listings),
                 additions::series(seed, counts.additions),
+                traces::series(seed, counts.traces),
             ],
             built: Built::new(seed, counts.built),
             removals: Removals::new(seed, counts.removals),
@@ -157,6 +162,10 @@ impl Plan {
 
     pub fn before_additions(&self) -> usize {
         self.before(6)
+    }
+
+    pub fn before_traces(&self) -> usize {
+        self.before(7)
     }
 
     pub fn before_built(&self) -> usize {

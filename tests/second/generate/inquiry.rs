@@ -6,14 +6,14 @@ use crate::generate::random::Random;
 use crate::model::answer::LISTED;
 use crate::model::limits::MOST_OFFICES;
 use crate::model::sheet::bytes_of;
-use crate::trial::operation::{writes, JOIN, LOOKUP};
+use crate::trial::operation::{writes, JOIN, LOOKUP, STEPS, TRACE};
 use crate::trial::request::Request;
 
 pub struct Inquiry {
     pub operation: u32,
     pub numbers: Vec<u32>,
     pub sheet: Vec<u8>,
-    /// The words of the second payload: a list, or another sheet.
+    /// The words of the second payload: a list, another sheet, or the rows of a trace.
     pub second: Vec<u32>,
     pub room: usize,
 }
@@ -24,7 +24,7 @@ impl Inquiry {
     pub fn request(self, random: &mut Random) -> Request {
         let mut request = dress(random, self.operation, self.sheet);
         request.numbers[..self.numbers.len()].copy_from_slice(&self.numbers);
-        if matches!(self.operation, LISTED | LOOKUP | JOIN) {
+        if matches!(self.operation, LISTED | LOOKUP | JOIN | TRACE | STEPS) {
             request.second = bytes_of(&self.second);
             remainder(random, &mut request.second);
         }

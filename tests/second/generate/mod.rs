@@ -1,7 +1,8 @@
 //! Sheets and what is asked of them, drawn by chance: valid sheets of many shapes,
 //! full ones, pairs that have something in common, sheets damaged on purpose or
-//! spoiled without aim, rows to be added, lists that are paths or nearly, and texts
-//! that are listings or nearly. What each of them is worth is for the model to say.
+//! spoiled without aim, rows to be added, lists that are paths or nearly, texts that are
+//! listings or nearly, traces and tables of the duty desk. What each of them is worth is
+//! for the model to say.
 
 pub mod additions;
 pub mod cast;
@@ -9,6 +10,7 @@ pub mod damage;
 pub mod desk;
 pub mod draft;
 pub mod dress;
+pub mod duty;
 pub mod full;
 pub mod inquiry;
 pub mod lists;
@@ -24,5 +26,7 @@ pub mod scramble;
 pub mod slips;
 pub mod texts;
 pub mod throng;
+pub mod traces;
 pub mod typing;
 pub mod unions;
+pub mod watches;

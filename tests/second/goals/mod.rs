@@ -15,7 +15,10 @@ pub mod redundant;
 pub mod removals;
 pub mod rooms;
 pub mod surveys;
+pub mod tables;
 pub mod takings;
+pub mod trace_refusals;
+pub mod traces;
 pub mod ways;
 
 use std::collections::BTreeMap;
@@ -23,8 +26,8 @@ use std::collections::BTreeMap;
 use crate::model::position::TABLES;
 use crate::model::survey::is_survey;
 use crate::trial::operation::{
-    adding, called, finding, operations, table_of, way_of, ADD_EDGE, CHECK_WORDS, JOIN, LOOKUP,
-    READ_LISTING, TAKE_OUT, WRITE_LISTING,
+    adding, called, finding, operations, table_of, way_of, CHECK_WORDS, JOIN, LOOKUP, READ_LISTING,
+    STEPS, TAKE_OUT, TRACE, WRITE_LISTING,
 };
 use crate::trial::request::{Expected, Request};
 use crate::trial::scope::Scope;
@@ -44,6 +47,9 @@ pub fn needed() -> Vec<String> {
         goals.extend(of_operation(adding(table), additions::needed(table)));
     }
     goals.extend(additions::needed_built());
+    for operation in [TRACE, STEPS] {
+        goals.extend(of_operation(operation, traces::needed(operation)));
+    }
     goals
 }
 
@@ -55,7 +61,7 @@ fn of_operation(operation: u32, goals: Vec<String>) -> Vec<String> {
 /// question or operation.
 pub fn needed_in(scope: &Scope) -> Vec<String> {
     let of_scope = |goal: &String| {
-        let all = (CHECK_WORDS..=TAKE_OUT).chain(operations()).chain(READ_LISTING..=ADD_EDGE);
+        let all = (CHECK_WORDS..=TAKE_OUT).chain(operations()).chain(READ_LISTING..=STEPS);
         let mut own = all.filter(|&operation| scope.has(operation));
         own.any(|operation| goal.starts_with(&format!("{}: ", called(operation))))
     };
@@ -74,6 +80,7 @@ pub fn met(request: &Request, expected: &Expected) -> Vec<String> {
         TAKE_OUT => return of_operation(operation, takings::met(request, expected)),
         READ_LISTING => return of_operation(operation, listings::met_reading(request, expected)),
         WRITE_LISTING => return of_operation(operation, listings::met_writing(request, expected)),
+        TRACE | STEPS => return of_operation(operation, traces::met(request, expected)),
         _ => {}
     }
     if let Some(table) = table_of(operation) {

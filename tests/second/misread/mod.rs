@@ -12,7 +12,9 @@ pub mod lookups;
 pub mod positions;
 pub mod redundant;
 pub mod surveys;
+pub mod tables;
 pub mod takings;
+pub mod traces;
 pub mod typings;
 pub mod ways;
 

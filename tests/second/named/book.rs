@@ -1,5 +1,5 @@
-//! A book of named questions, lookups, joins, takings out, listings, searches and
-//! additions: what each asks, and literally what the document says of it.
+//! A book of named questions, lookups, joins, takings out, listings, searches, additions
+//! and traces: what each asks, and literally what the document says of it.
 
 use crate::generate::inquiry::Inquiry;
 use crate::model::answer::{ANSWER, JOINT, LISTED, WITNESS};
@@ -8,7 +8,7 @@ use crate::model::lookup::Wanted;
 use crate::model::position::{Key, Table};
 use crate::model::sheet::*;
 use crate::trial::operation::{
-    adding, called, finding, Way, JOIN, LOOKUP, READ_LISTING, TAKE_OUT, WRITE_LISTING,
+    adding, called, finding, Way, JOIN, LOOKUP, READ_LISTING, STEPS, TAKE_OUT, TRACE, WRITE_LISTING,
 };
 
 #[derive(Clone, Debug)]
@@ -32,6 +32,8 @@ pub enum Says {
     Stands(bool, u32),
     /// the sheet with a row more, and where the row stands
     Added(Vec<u32>, u32),
+    /// a refusal as above, or 0s; rows taken, answers, and how many of these fit
+    Stepped([u32; 3], u32, Vec<u32>, usize),
 }
 
 impl Says {
@@ -51,6 +53,10 @@ impl Says {
             Says::Spelt(words) => (counted(WORD * words.len()), bytes_of(words)),
             Says::Typed(text) => (counted(text.len()), text.as_bytes().to_vec()),
             Says::Stands(there, row) => ([0, 0, 0, u32::from(*there), *row, 0, 0], Vec::new()),
+            Says::Stepped([number, sheet, row], taken, answers, fit) => {
+                let count = answers.len() as u32;
+                ([*number, *sheet, *row, *taken, count, 0, 0], bytes_of(&answers[..*fit]))
+            }
             Says::Added(words, row) => ([0, 0, 0, *row, words.len() as u32, 0, 0], bytes_of(words)),
         }
     }
@@ -383,5 +389,63 @@ impl Book {
         let says = Says::Refused(says.0, says.1, says.2);
         self.adds(&format!("{name}, without room"), words, what, 0, says.clone());
         self.adds(&format!("{name}, with room"), words, what, words.len() + 4, says);
+    }
+
+    fn rows(&mut self, name: &str, asked: [u32; 2], sheet: &[u32], rows: &[u32], says: Says) {
+        let [operation, timeout] = asked;
+        self.add(name, operation, sheet, &[timeout], says);
+        if let Some(asked) = self.asked.last_mut() {
+            asked.second = rows.to_vec();
+        }
+    }
+
+    /// The answers to a trace, with just enough room, with more and with too little: whole
+    /// it is then refused, and by steps what fits is there.
+    pub fn traced(&mut self, name: &str, sheet: &[u32], timeout: u32, rows: &[u32], says: &[u32]) {
+        let (length, taken) = (says.len(), (rows.len() / 5) as u32);
+        let mut rooms = vec![(length, "exactly enough room"), (length + 1, "one word to spare")];
+        if length > 0 {
+            rooms.extend([(length - 1, "one word short"), (0, "no room")]);
+        }
+        for (room, how) in rooms {
+            let name = format!("{name}, {how}");
+            let whole = match room < length {
+                true => Says::Refused(25, 0, 0),
+                false => Says::Written(says.to_vec()),
+            };
+            self.rows(&name, [TRACE, timeout], sheet, rows, whole);
+            self.lend(room);
+            let stepped = Says::Stepped([0, 0, 0], taken, says.to_vec(), room.min(length));
+            self.rows(&name, [STEPS, timeout], sheet, rows, stepped);
+            self.lend(room);
+        }
+    }
+
+    fn lend(&mut self, room: usize) {
+        if let Some(asked) = self.asked.last_mut() {
+            asked.room = room;
+        }
+    }
+
+    /// number, sheet, row; whatever the room. By steps, so many rows are taken first, and
+    /// their answers stay.
+    pub fn not_traced(
+        &mut self,
+        name: &str,
+        sheet: &[u32],
+        (timeout, rows): (u32, &[u32]),
+        says: [u32; 3],
+        (taken, answers): (u32, &[u32]),
+    ) {
+        for (room, how) in [(0, "without room"), (80, "with room")] {
+            let name = format!("{name}, {how}");
+            let refused = Says::Refused(says[0], says[1], says[2]);
+            self.rows(&name, [TRACE, timeout], sheet, rows, refused);
+            self.lend(room);
+            let fit = answers.len().min(room);
+            let stepped = Says::Stepped(says, taken, answers.to_vec(), fit);
+            self.rows(&name, [STEPS, timeout], sheet, rows, stepped);
+            self.lend(room);
+        }
     }
 }

@@ -22,5 +22,7 @@ pub mod rows;
 pub mod sister;
 pub mod survey_refusals;
 pub mod surveys;
+pub mod tables;
 pub mod takings;
+pub mod traces;
 pub mod ways;

@@ -1,10 +1,11 @@
-//! One run against the trial program: which cases are chosen on the command line,
+//! One run against the trial program, or against the driver of lent tables: which cases are chosen on the command line,
 //! how they are put to it, what is counted and what is printed.
 
 pub mod options;
 pub mod progress;
 pub mod report;
 pub mod seeds;
+pub mod tables;
 pub mod tally;
 
 use std::sync::Arc;

@@ -8,11 +8,14 @@ pub const USAGE: &str = "usage:
   second [--seed N] [--cases N] [--questions N] [--only OPERATIONS] [--case K]
       [--patience SECONDS] -- COMMAND ARGS..
   second --long N [--seed N] [--only OPERATIONS] [--case K] -- COMMAND ARGS..
+  second --tables [--seed N] [--case K] [--patience SECONDS] -- COMMAND ARGS..
   second --benchmark [--only OPERATIONS] -- COMMAND ARGS..
   second --seeds FOLDER [--seed N]
   second --texts FOLDER [--seed N]
   second --lines FOLDER [--seed N]
   second --rows FOLDER [--seed N]
+  second --traces FOLDER [--seed N]
+  second --lent FOLDER [--seed N]
   second --self-test";
 
 const COUNTS: Counts = Counts {
@@ -24,6 +27,7 @@ const COUNTS: Counts = Counts {
     ways: 4_200,
     listings: 27_000,
     additions: 6_400,
+    traces: 10_000,
     built: 188,
     removals: 5_000,
 };
@@ -43,6 +47,8 @@ pub struct Options {
     /// What a fuzzer begins with, and the folder for it.
     pub seeds: Option<(Seeds, String)>,
     pub self_test: bool,
+    /// One row on lent tables, put to a driver of its own.
+    pub tables: bool,
     /// Times instead of comparisons.
     pub benchmark: bool,
     pub command: Vec<String>,
@@ -59,6 +65,7 @@ impl Options {
             long: false,
             seeds: None,
             self_test: false,
+            tables: false,
             benchmark: false,
             command: Vec::new(),
         };
@@ -81,7 +88,10 @@ impl Options {
                 "--texts" => options.seeds = folder(Seeds::Texts, words.next()),
                 "--lines" => options.seeds = folder(Seeds::Lines, words.next()),
                 "--rows" => options.seeds = folder(Seeds::Rows, words.next()),
+                "--traces" => options.seeds = folder(Seeds::Traces, words.next()),
+                "--lent" => options.seeds = folder(Seeds::Lent, words.next()),
                 "--self-test" => options.self_test = true,
+                "--tables" => options.tables = true,
                 "--benchmark" => options.benchmark = true,
                 "--" => options.command = words.by_ref().collect(),
                 _ => return Err(format!("not understood: {word}")),

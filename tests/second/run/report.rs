@@ -162,7 +162,7 @@ impl Report {
             println!("  {operation}: {count}");
         }
         println!("cases by expected outcome:");
-        for number in (0..=17).chain(20..=33).chain(40..=43).chain([UNKNOWN]) {
+        for number in (0..=17).chain(20..=33).chain(40..=43).chain([50, 51, 54, UNKNOWN]) {
             let name = if number == UNKNOWN { "unknown".to_string() } else { number.to_string() };
             println!("  {name}: {}", self.outcomes.get(&number).unwrap_or(&0));
         }

@@ -2,7 +2,9 @@
 //! kind, person, deed, folio and the room in bytes, a word each, and the file. Of the
 //! listings: the room in words, a word, and the text. Of their lines: the line, without
 //! its line feed. Of rows searched and added: the row's four words and the room in
-//! words, a word each, and the sheet.
+//! words, a word each, and the sheet. Of traces: the timeout, the room in words and how many
+//! words the rows have, a word each, the rows, and the sheet. Of lent tables: the timeout and
+//! how many words the row has, the table, the row, and the sheet.
 
 use std::collections::BTreeSet;
 use std::fs;
@@ -11,13 +13,15 @@ use std::ops::Range;
 use std::path::Path;
 
 use crate::cases::plan::{Counts, Plan};
+use crate::cases::tables::Tables;
 use crate::model::answer::WITNESS;
 use crate::model::limits::WORD;
 use crate::model::listing::lines;
-use crate::model::sheet::bytes_of;
+use crate::model::sheet::{bytes_of, words_of};
 use crate::run::tally::Tally;
 use crate::trial::expect::row_of;
-use crate::trial::operation::{table_of, way_of, Way, READ_LISTING};
+use crate::trial::lending::Lending;
+use crate::trial::operation::{table_of, way_of, Way, READ_LISTING, TRACE};
 use crate::trial::request::Request;
 
 /// The random ones of them, and how many may be long: a fuzzer is slow on those.
@@ -28,14 +32,16 @@ const MOST_LONG: usize = 12;
 /// Longer texts than this are far over the limits, and no seeds.
 const MOST_TEXT: usize = 32_000;
 
-/// What the counter is asked of a file, what is read as a listing, each line of it, and
-/// rows that are searched and added.
+/// What the counter is asked of a file, what is read as a listing, each line of it, rows
+/// that are searched and added, traces, and rows on lent tables.
 #[derive(Clone, Copy)]
 pub enum Seeds {
     Files,
     Texts,
     Lines,
     Rows,
+    Traces,
+    Lent,
 }
 
 /// So many random cases of one kind, and no other kind is drawn. Lines need none: what can
@@ -44,22 +50,28 @@ pub fn write(sort: Seeds, seed: u64, folder: &str) -> Tally {
     let counts = match sort {
         Seeds::Files => Counts { ways: RANDOM, ..Counts::default() },
         Seeds::Texts => Counts { listings: RANDOM, ..Counts::default() },
-        Seeds::Lines => Counts::default(),
+        Seeds::Lines | Seeds::Lent => Counts::default(),
         Seeds::Rows => Counts { additions: RANDOM, ..Counts::default() },
+        Seeds::Traces => Counts { traces: RANDOM, ..Counts::default() },
     };
     let plan = Plan::new(seed, counts);
     let numbers = match sort {
         Seeds::Files => plan.before_ways()..plan.before_listings(),
         Seeds::Texts | Seeds::Lines => plan.before_listings()..plan.before_additions(),
-        Seeds::Rows => plan.before_additions()..plan.before_built(),
+        Seeds::Rows => plan.before_additions()..plan.before_traces(),
+        Seeds::Traces | Seeds::Lent => plan.before_traces()..plan.before_built(),
     };
     let seeds_of = match sort {
         Seeds::Files => of_counter,
         Seeds::Texts => of_listing,
         Seeds::Lines => of_lines,
         Seeds::Rows => of_row,
+        Seeds::Traces | Seeds::Lent => of_trace,
     };
-    let written = write_all(&plan, numbers, folder, seeds_of);
+    let written = match sort {
+        Seeds::Lent => write_lent(seed, folder),
+        _ => write_all(&plan, numbers, folder, seeds_of),
+    };
     let mut tally = Tally::default();
     tally.test(&format!("seeds in {folder}: {written:?}"), written.is_ok_and(|count| count > 0));
     tally
@@ -80,6 +92,22 @@ fn write_all(
                 fs::write(Path::new(folder).join(format!("{number:06}-{at}")), &bytes)?;
                 seen.insert(bytes);
             }
+        }
+    }
+    Ok(seen.len())
+}
+
+/// All by hand, and as many as there are random ones of another kind.
+fn write_lent(seed: u64, folder: &str) -> io::Result<usize> {
+    let tables = Tables::new(seed, RANDOM);
+    let mut seen = BTreeSet::new();
+    for number in 0..tables.len() {
+        let Lending { watch, sheet, timeout, row } = tables.case(number).lending;
+        let numbers = [&[timeout, row.len() as u32][..], &watch.words(), &row].concat();
+        let bytes = after(&numbers, &bytes_of(&sheet));
+        if bytes.len() <= LONG && !seen.contains(&bytes) {
+            fs::write(Path::new(folder).join(format!("{number:06}")), &bytes)?;
+            seen.insert(bytes);
         }
     }
     Ok(seen.len())
@@ -112,6 +140,14 @@ fn of_row(request: &Request) -> Vec<Vec<u8>> {
     let numbers = [first, second, third, offices, request.out_len as u32];
     let own = table_of(request.operation).map(|_| after(&numbers, &request.first));
     own.into_iter().collect()
+}
+
+/// Both legs of a trace are the same here.
+fn of_trace(request: &Request) -> Vec<Vec<u8>> {
+    let rows = words_of(&request.second);
+    let numbers = [request.numbers[0], request.out_len as u32, rows.len() as u32];
+    let own = request.operation == TRACE && request.first.len() + request.second.len() <= LONG;
+    own.then(|| after(&[&numbers[..], &rows].concat(), &request.first)).into_iter().collect()
 }
 
 fn is_text(request: &Request) -> bool {

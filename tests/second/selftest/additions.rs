@@ -40,7 +40,7 @@ pub fn run(tally: &mut Tally) {
     outputs(tally);
     by_identities(tally);
     selftest::named::run(tally, "additions", &named::additions::all(), Plan::before_additions);
-    repeatable(tally, "addition", Plan::before_built, |additions| Counts { additions, ..NONE });
+    repeatable(tally, "addition", Plan::before_traces, |additions| Counts { additions, ..NONE });
     built(tally);
     made_cases(tally);
     distinguished(tally);
@@ -241,7 +241,7 @@ fn built(tally: &mut Tally) {
 fn made_cases(tally: &mut Tally) {
     let plan = Plan::new(5, Counts { additions: CASES, ..NONE });
     let all: Vec<Case> =
-        (plan.before_additions()..plan.before_built()).map(|number| plan.case(number)).collect();
+        (plan.before_additions()..plan.before_traces()).map(|number| plan.case(number)).collect();
     let slips = all.iter().filter(|case| case.about.own_fault.is_some()).count();
     tally.test("no addition misses its aim", slips == 0);
     let kinds: BTreeSet<&str> = all.iter().map(|case| case.about.kind).collect();
@@ -266,7 +266,7 @@ fn made_cases(tally: &mut Tally) {
 fn distinguished(tally: &mut Tally) {
     let plan = Plan::new(1, Counts { additions: CASES, ..NONE });
     let first = plan.before_additions() + named::additions::all().len();
-    let cases = (first..plan.before_built()).map(|number| plan.case(number));
+    let cases = (first..plan.before_traces()).map(|number| plan.case(number));
     let small = |case: &Case| case.request.first.len() < WORD * 2_000;
     let (cases, full): (Vec<Case>, Vec<Case>) = cases.partition(small);
     let many = full.len();

@@ -16,7 +16,7 @@ use crate::model::survey::*;
 use crate::run::tally::Tally;
 use crate::trial::expect::expect;
 use crate::trial::operation::{
-    ADD_EDGE, ADD_NODE, FIND_EDGE, FIND_NODE, READ_LISTING, WRITE_LISTING,
+    ADD_EDGE, ADD_NODE, FIND_EDGE, FIND_NODE, READ_LISTING, STEPS, TRACE, WRITE_LISTING,
 };
 
 pub fn run(tally: &mut Tally) {
@@ -96,6 +96,9 @@ fn wanted(operation: u32, shape: Shape) -> (u32, u32, u32) {
         // The first person's edge is missing.
         ADD_NODE => (0, 0, MOST_WORDS as u32 - 4),
         ADD_EDGE => (0, 0, MOST_WORDS as u32),
+        // 67 of the 100 rows are questions.
+        TRACE => (0, 0, 67),
+        STEPS => (0, 100, 67),
         _ => (0, 0, 0),
     }
 }

@@ -2,7 +2,7 @@
 //! cases of the checks are made.
 
 use crate::cases::plan::{Counts, Plan};
-use crate::cases::{built, removals};
+use crate::cases::{built, removals, traces};
 use crate::generate::make;
 use crate::generate::random::Random;
 use crate::goals::coverage::{needed, Cell, Coverage};
@@ -206,8 +206,8 @@ fn repeatable_cases(tally: &mut Tally) {
     for total in [0, 1, 99, 100, 101, 1_000_000] {
         let counts = Counts::of_long_run(total);
         let Counts { checks, questions, surveys, lookups, joins, ways, .. } = counts;
-        let Counts { listings, additions, built, removals, .. } = counts;
-        let sheets = [built::ASKED * built, removals::ASKED * removals];
+        let Counts { listings, additions, traces, built, removals, .. } = counts;
+        let sheets = [traces::LEGS * traces, built::ASKED * built, removals::ASKED * removals];
         let series = [questions, surveys, lookups, joins, ways, listings, additions];
         let all: Vec<usize> = series.into_iter().chain(sheets).chain([checks]).collect();
         let enough =

@@ -17,6 +17,8 @@ pub mod questions;
 pub mod removals;
 pub mod repeatable;
 pub mod surveys;
+pub mod tables;
+pub mod traces;
 pub mod ways;
 
 use crate::run::tally::Tally;
@@ -34,6 +36,8 @@ pub fn run() -> Tally {
     ways::run(&mut tally);
     listings::run(&mut tally);
     additions::run(&mut tally);
+    traces::run(&mut tally);
+    tables::run(&mut tally);
     removals::run(&mut tally);
     benchmark::run(&mut tally);
     tally

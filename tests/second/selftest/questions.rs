@@ -229,7 +229,7 @@ fn goal_misses(tally: &mut Tally) {
     tally.test("no goal met misses them all", Goals::default().misses() == needed());
     let distinct: BTreeSet<String> = needed().into_iter().collect();
     tally.test("no two goals are the same", distinct.len() == needed().len());
-    tally.test("1620 goals are needed", needed().len() == 1620);
+    tally.test("2002 goals are needed", needed().len() == 2_002);
     for left_out in needed() {
         let mut goals = Goals::default();
         let met = needed().into_iter().filter(|goal| *goal != left_out);

@@ -13,6 +13,7 @@ pub const NONE: Counts = Counts {
     ways: 0,
     listings: 0,
     additions: 0,
+    traces: 0,
     built: 0,
     removals: 0,
 };

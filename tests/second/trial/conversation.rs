@@ -1,13 +1,22 @@
-//! A conversation with the trial program: requests are written and replies read
-//! without waiting for one another.
+//! A conversation with the trial program, or with another that replies to each request:
+//! requests are written and replies read without waiting for one another.
 
-use std::io::{BufRead, BufReader, BufWriter, Write};
+use std::io::{BufRead, BufReader, BufWriter, Read, Write};
 use std::process::{Child, ChildStdin, ChildStdout, Command, Stdio};
 use std::sync::mpsc::{channel, Receiver, RecvTimeoutError, Sender};
 use std::thread;
 use std::time::{Duration, Instant};
 
-use crate::trial::request::{compare, read_reply, Expected, Request};
+/// What is put to the program.
+pub trait Sent {
+    fn sent(&self) -> Vec<u8>;
+}
+
+/// What has to come back.
+pub trait Awaited {
+    /// Reads the reply and tells in which words it differs; or why it cannot be read.
+    fn heard(&self, from: &mut impl Read) -> Result<Vec<String>, String>;
+}
 
 enum Heard<T> {
     Answer(T, Vec<String>),
@@ -17,9 +26,9 @@ enum Heard<T> {
 /// Starts the trial, puts every request to it and calls `answered` for each
 /// reply with the differences found. What is wrong with the conversation
 /// itself comes back as a list, empty if all went well.
-pub fn question<T: Send + 'static>(
+pub fn question<T: Send + 'static, S: Sent, A: Awaited + Send + 'static>(
     command: &[String],
-    requests: impl Iterator<Item = (T, Request, Expected)> + Send + 'static,
+    requests: impl Iterator<Item = (T, S, A)> + Send + 'static,
     patience: Duration,
     answered: impl FnMut(T, Vec<String>),
 ) -> Vec<String> {
@@ -50,10 +59,10 @@ pub fn start(command: &[String]) -> std::io::Result<Child> {
         .spawn()
 }
 
-fn write_all<T>(
+fn write_all<T, S: Sent, A>(
     stdin: ChildStdin,
-    requests: impl Iterator<Item = (T, Request, Expected)>,
-    ask: Sender<(T, Expected)>,
+    requests: impl Iterator<Item = (T, S, A)>,
+    ask: Sender<(T, A)>,
     hear: Sender<Heard<T>>,
 ) {
     let mut stdin = BufWriter::new(stdin);
@@ -63,7 +72,7 @@ fn write_all<T>(
         if ask.send((about, expected)).is_err() {
             return;
         }
-        if let Err(error) = stdin.write_all(&request.bytes()) {
+        if let Err(error) = stdin.write_all(&request.sent()) {
             let _ = hear.send(Heard::Fault(format!("a request cannot be written: {error}")));
             return;
         }
@@ -76,7 +85,7 @@ fn write_all<T>(
 /// Output is taken as soon as it comes, and only then is its request looked
 /// up: a trial that says too much would otherwise fill its pipe, stop reading,
 /// and hold up the writer as well.
-fn read_all<T>(stdout: ChildStdout, asked: Receiver<(T, Expected)>, hear: Sender<Heard<T>>) {
+fn read_all<T, A: Awaited>(stdout: ChildStdout, asked: Receiver<(T, A)>, hear: Sender<Heard<T>>) {
     let mut stdout = BufReader::new(stdout);
     loop {
         let more = matches!(stdout.fill_buf(), Ok(bytes) if !bytes.is_empty());
@@ -87,9 +96,8 @@ fn read_all<T>(stdout: ChildStdout, asked: Receiver<(T, Expected)>, hear: Sender
             }
             return;
         };
-        match read_reply(&mut stdout, expected.output.len()) {
-            Ok(reply) => {
-                let differences = compare(&expected, &reply);
+        match expected.heard(&mut stdout) {
+            Ok(differences) => {
                 let _ = hear.send(Heard::Answer(about, differences));
             }
             Err(why) => {

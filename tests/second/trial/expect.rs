@@ -12,9 +12,10 @@ use crate::model::lookup::{lookup, Wanted};
 use crate::model::position::{search, Table};
 use crate::model::sheet::{words_of, Row};
 use crate::model::take_out::take_out;
+use crate::model::trace::{step_by_step, trace, Steps};
 use crate::trial::operation::{
-    finding, table_of, way_of, Way, CHECK_BYTES, CHECK_WORDS, JOIN, LOOKUP, READ_LISTING, TAKE_OUT,
-    UNKNOWN, WRITE_LISTING,
+    finding, table_of, way_of, Way, CHECK_BYTES, CHECK_WORDS, JOIN, LOOKUP, READ_LISTING, STEPS,
+    TAKE_OUT, TRACE, UNKNOWN, WRITE_LISTING,
 };
 use crate::trial::request::{Expected, Request};
 
@@ -41,6 +42,8 @@ pub fn expect(request: &Request) -> Expected {
             let text = listing::write(&first, WORD * room);
             told(request, text.map(|text| laid(&text, request.fill)))
         }
+        TRACE => told(request, trace(&first, numbers[0], &second, room)),
+        STEPS => stepped(request, &step_by_step(&first, numbers[0], &second)),
         question if is_question(question) => {
             told(request, answer(question, numbers, &first, &second, room))
         }
@@ -103,6 +106,18 @@ pub fn told(request: &Request, outcome: Result<Answer, Refusal>) -> Expected {
     let [number, sheet, row, value, count, one, other] = head;
     let room = request.out_len as u32;
     Expected { reply: [number, sheet, row, value, count, one, other, room], output }
+}
+
+/// The reply to rows that were put one at a time. What was answered before a refused row
+/// stays, and an answer without room is counted only.
+pub fn stepped(request: &Request, steps: &Steps) -> Expected {
+    let (value, count) = (steps.taken.len() as u32, steps.answers.len() as u32);
+    let written = steps.answers.iter().copied().take(request.out_len).collect();
+    let mut expected = told(request, Ok(Answer { value, count, written, ..Answer::default() }));
+    if let Some(Refusal { number, sheet, row }) = steps.refusal {
+        expected.reply[..3].copy_from_slice(&[number, sheet, row]);
+    }
+    expected
 }
 
 /// The lookup itself has no output: the trial counts the part that it gives, and

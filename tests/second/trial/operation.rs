@@ -15,9 +15,11 @@ pub const FIND_NODE: u32 = 32;
 pub const FIND_EDGE: u32 = 33;
 pub const ADD_NODE: u32 = 34;
 pub const ADD_EDGE: u32 = 35;
+pub const TRACE: u32 = 36;
+pub const STEPS: u32 = 37;
 
 /// Some that there are not.
-pub const NO_OPERATIONS: [u32; 8] = [24, 25, 26, 27, 28, 29, 36, u32::MAX];
+pub const NO_OPERATIONS: [u32; 8] = [24, 25, 26, 27, 28, 29, 38, u32::MAX];
 
 /// What the trial program says of an operation that it does not have.
 pub const UNKNOWN: u32 = u32::MAX;
@@ -34,7 +36,7 @@ pub fn called(operation: u32) -> String {
 pub fn writes(operation: u32) -> bool {
     match way_of(operation) {
         Some((_, question)) => question == WITNESS,
-        None if matches!(operation, READ_LISTING | WRITE_LISTING | ADD_NODE | ADD_EDGE) => true,
+        None if matches!(operation, READ_LISTING | WRITE_LISTING | ADD_NODE..=STEPS) => true,
         None => (WITNESS..=TAKE_OUT).contains(&operation) && operation != LISTED,
     }
 }

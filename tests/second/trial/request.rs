@@ -5,6 +5,7 @@ use std::io::{ErrorKind, Read};
 
 use crate::model::limits::WORD;
 use crate::model::sheet::{bytes_of, words_of};
+use crate::trial::conversation::{Awaited, Sent};
 
 /// The limits of one request, as the protocol sets them.
 pub const MOST_PAYLOAD: usize = 160_000;
@@ -56,10 +57,30 @@ pub struct Reply {
     pub output: Vec<u32>,
 }
 
+impl Sent for Request {
+    fn sent(&self) -> Vec<u8> {
+        self.bytes()
+    }
+}
+
+impl Awaited for Expected {
+    fn heard(&self, from: &mut impl Read) -> Result<Vec<String>, String> {
+        Ok(compare(self, &read_reply(from, self.output.len())?))
+    }
+}
+
 /// Takes as many output words as were asked for, whatever reply word 7 says:
 /// a wrong word 7 is then one difference and not a lost conversation.
 pub fn read_reply(from: &mut impl Read, out_len: usize) -> Result<Reply, String> {
-    let length = WORD * (8 + out_len);
+    let all = read_words(from, 8 + out_len)?;
+    let mut words = [0; 8];
+    words.copy_from_slice(&all[..8]);
+    Ok(Reply { words, output: all[8..].to_vec() })
+}
+
+/// So many words of a reply.
+pub fn read_words(from: &mut impl Read, count: usize) -> Result<Vec<u32>, String> {
+    let length = WORD * count;
     let mut bytes = vec![0; length];
     let mut read = 0;
     while read < length {
@@ -70,10 +91,7 @@ pub fn read_reply(from: &mut impl Read, out_len: usize) -> Result<Reply, String>
             Err(error) => return Err(format!("the reply cannot be read: {error}")),
         }
     }
-    let all = words_of(&bytes);
-    let mut words = [0; 8];
-    words.copy_from_slice(&all[..8]);
-    Ok(Reply { words, output: all[8..].to_vec() })
+    Ok(words_of(&bytes))
 }
 
 /// One line for each reply word that differs, and one for the output.

@@ -1,11 +1,13 @@
 -- `add::add_checked` meets its contract: what is refused of the row, then the sheet.
 -- Assumes nothing.
-use mathlib.Core.Path.{refl, sym, subst, _∙_}
+use mathlib.Core.Path.{sym, subst, _∙_}
 use Rattle.tables.specs.Key.{Key}
 use Rattle.sheet.specs.Found.{FoundIs}
+use Rattle.sheet.specs.Refusals.{refuse}
 use Rattle.sheet.specs.Rows.{countIn, rowKeyAt}
 use Rattle.sheet.proofs.Reading.{half-formed}
-use Rattle.add.proofs.Showing.{row-refused, row-unrefused}
+use Rattle.sheet.proofs.Refusing.{refuse-plain}
+use Rattle.add.specs.Adding.{refused}
 use borrow.Author.Needs.{needs}
 use Rattle.add.proofs.add_checked.Statement.{statement}
 use Rattle.add.proofs.add_checked.Tie as tie
@@ -23,7 +25,7 @@ refused-by-requires : tie.Need-refused-by-requires
 refused-by-requires c κs = search needs
 
 returns : tie.Need-returns
-returns c = row-refused _ _ _ _ _ _ (c .before .before .add-fault .ensures) (c .before .if1 .taken) (c .refused-by .ensures) refl
+returns c = rw (c .refused-by .ensures, ← refuse-plain _ _ (c .before .before .add-fault .ensures)) (refused (c .before .if1 .taken))
 
 add-good-requires : tie.Need-add-good-requires
 add-good-requires c κs = let S = c .before .before .before .before .before .before .before in let f = subst (λ (k : Key). FoundIs (rowKeyAt (S .args .half) (S .args .sheet .now)) (countIn (S .args .half) (S .args .h)) k (c .before .before .before .find-row .result)) (c .before .before .before .before .named .ensures) (c .before .before .before .find-row .ensures) in (S .pre, sym (c .before .before .add-fault .ensures) ∙ c .before .if1 .left, f .place)
@@ -32,7 +34,8 @@ same-length : tie.Need-same-length
 same-length c = search needs
 
 returns-2 : tie.Need-returns-2
-returns-2 c = row-unrefused _ _ _ _ _ (sym (c .before .before .before .before .before .add-fault .ensures) ∙ c .before .before .before .before .if1 .left) (c .before .before .add-good .ensures)
+unfolding refuse
+returns-2 c = rw (sym (c .before .before .before .before .before .add-fault .ensures) ∙ c .before .before .before .before .if1 .left) (c .before .before .add-good .ensures)
 
 pub add-checked-spec : {M : Type 1} → statement M
 add-checked-spec =

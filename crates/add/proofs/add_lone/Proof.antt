@@ -1,12 +1,11 @@
 -- `add::add_lone` meets its contract: 25, or the sheet with the row more and its count of words.
 -- Assumes nothing.
-use mathlib.Core.Path.{refl, sym, ap, subst, _∙_}
-use mathlib.Core.List.{_++_}
-use Prim.Native.Nat.{ℕ, _≤_}
+use mathlib.Core.Path.{refl, sym, subst, _∙_}
+use Prim.Native.Nat.{_≤_}
 use native.Mathlib.Omega.{arith}
-use lib.ListN.{drop}
 use Rattle.sheet.specs.declared.Header.{Header}
 use Rattle.sheet.specs.Found.{PlaceIs}
+use Rattle.sheet.specs.Refusals.{refuse}
 use Rattle.sheet.specs.Rows.{countIn, rowKey, rowKeyAt}
 use Rattle.sheet.specs.Limits.{maxNodes, maxEdges}
 use Rattle.sheet.proofs.Forming.{words-of}
@@ -14,8 +13,9 @@ use Rattle.sheet.proofs.Places.{half-few}
 use Rattle.sheet.proofs.Reading.{half-formed}
 use Rattle.sheet.proofs.Widths.{few}
 use Rattle.combine.proofs.Whole.{there}
+use Rattle.add.specs.Adding.{short, written}
 use Rattle.add.proofs.Adding.{added-pair, added-few, combined-added}
-use Rattle.add.proofs.Showing.{fault-good, row-short, row-written}
+use Rattle.add.proofs.Showing.{fault-good}
 use borrow.Author.Needs.{needs}
 use Rattle.add.proofs.add_lone.Statement.{statement}
 use Rattle.add.proofs.add_lone.Tie as tie
@@ -44,10 +44,11 @@ refused-by-requires : tie.Need-refused-by-requires
 refused-by-requires c κs = search needs
 
 returns : tie.Need-returns
+unfolding refuse
 returns c = let S = c .before .before .before .before .before .before .before .before .before .before .before .before in
     let M = c .before .before .before in
     let T = there _ _ _ _ _ _ _ _ _ _ (added-pair (S .args .half) _ (words-of _ _ _ (S .pre .0)) _ (fault-good _ _ _ (S .pre .2)) _ (S .pre .1) _ _ (S .pre .0) (c .before .before .before .before .before .before .before .before .header-of .ensures)) (c .before .before .before .before .before .measure-of .ensures) (fits M .0) (fits M .1) in
-    row-short _ _ _ _ (S .args .row) (T .sheet) _ (combined-added (S .args .half) _ (words-of _ _ _ (S .pre .0)) _ (fault-good _ _ _ (S .pre .2)) _ (S .pre .1) _ (S .pre .0 .head) (T .sheet) (T .is), subst (λ (x : Header). PlaceIs (rowKeyAt (S .args .half) (S .args .sheet .now)) (countIn (S .args .half) x) (rowKey (S .args .c)) (S .args .row)) (S .pre .0 .head) (S .pre .3)) (T .long ∙ sym (c .before .before .sheet-words .ensures)) (c .before .if1 .taken) (c .refused-by .ensures) refl
+    rw (c .refused-by .ensures) (short (S .args .row) (T .sheet) refl (combined-added (S .args .half) _ (words-of _ _ _ (S .pre .0)) _ (fault-good _ _ _ (S .pre .2)) _ (S .pre .1) _ (S .pre .0 .head) (T .sheet) (T .is), subst (λ (x : Header). PlaceIs (rowKeyAt (S .args .half) (S .args .sheet .now)) (countIn (S .args .half) x) (rowKey (S .args .c)) (S .args .row)) (S .pre .0 .head) (S .pre .3)) (omega (arith, T .long, c .before .before .sheet-words .ensures, c .before .if1 .taken)))
 
 slice-aggregate-lay : tie.Need-slice-aggregate-lay
 slice-aggregate-lay c = search needs
@@ -76,7 +77,7 @@ returns-2 : tie.Need-returns-2
 returns-2 c = let S = c .before .before .before .before .before .before .before .before .before .before .before .before .before .before .before .before .before .before in
     let L = c .before .before .before .lay .ensures in
     let long = L .long ∙ sym (c .before .before .before .before .before .before .before .before .sheet-words .ensures) in
-    row-written _ _ _ _ (S .args .row) (L .sheet) _ (combined-added (S .args .half) _ (words-of _ _ _ (S .pre .0)) _ (fault-good _ _ _ (S .pre .2)) _ (S .pre .1) _ (S .pre .0 .head) (L .sheet) (L .is), subst (λ (x : Header). PlaceIs (rowKeyAt (S .args .half) (S .args .sheet .now)) (countIn (S .args .half) x) (rowKey (S .args .c)) (S .args .row)) (S .pre .0 .head) (S .pre .3)) long (c .before .before .before .before .before .before .before .if1 .left) (c .told .ensures) (L .holds ∙ ap (λ (x : ℕ). L .sheet ++ drop x (S .args .out .now)) long)
+    rw (c .told .ensures, ← long, L .holds) (written (S .args .row) (L .sheet) refl (combined-added (S .args .half) _ (words-of _ _ _ (S .pre .0)) _ (fault-good _ _ _ (S .pre .2)) _ (S .pre .1) _ (S .pre .0 .head) (L .sheet) (L .is), subst (λ (x : Header). PlaceIs (rowKeyAt (S .args .half) (S .args .sheet .now)) (countIn (S .args .half) x) (rowKey (S .args .c)) (S .args .row)) (S .pre .0 .head) (S .pre .3)) (omega (arith, long, c .before .before .before .before .before .before .before .if1 .left)))
 
 pub add-lone-spec : {M : Type 1} → statement M
 add-lone-spec =

@@ -2,8 +2,9 @@
 -- Assumes nothing.
 use mathlib.Core.Path.{refl}
 use Rattle.sheet.proofs.Forming.{passed-long, passed-whole}
+use Rattle.sheet.proofs.Writing.{gives-refused, gives-as}
 use Rattle.listing.specs.Printed.{printed}
-use Rattle.listing.proofs.Giving.{gives-refused, gives-as, sheet-refuses, sheet-passes}
+use Rattle.listing.proofs.Giving.{sheet-refuses, sheet-passes}
 use borrow.Author.Needs.{needs}
 use Rattle.listing.proofs.writing.write_listing.Statement.{statement}
 use Rattle.listing.proofs.writing.write_listing.Tie as tie
@@ -17,8 +18,8 @@ unwritten-requires c κs = search needs
 returns : tie.Need-returns
 returns c = let S = c .before .before .before .before .before .before in
     let v = c .before .before .before .check in
-    gives-as _ _ (printed (S .args .sheet .now)) (S .args .out .now) _ _ (sheet-refuses (S .args .sheet .now) (v .result) (v .ensures) (c .before .if1 .taken))
-    (gives-refused (printed (S .args .sheet .now)) (S .args .out .now) _ (v .result) (c .before .if1 .taken) (c .unwritten .ensures))
+    gives-as _ _ (printed (S .args .sheet .now)) (S .args .out .now) _ _ _ (sheet-refuses (S .args .sheet .now) (v .result) (v .ensures) (c .before .if1 .taken))
+    (rw (c .unwritten .ensures) (gives-refused (printed (S .args .sheet .now)) (S .args .out .now) (v .result) (c .before .if1 .taken)))
 
 header-of-requires : tie.Need-header-of-requires
 header-of-requires c κs = passed-long _ _ _ (c .before .before .check .ensures) (c .if1 .left)
@@ -32,7 +33,7 @@ same-length c = search needs
 returns-2 : tie.Need-returns-2
 returns-2 c = let S = c .before .before .before .before .before .before .before .before .before .before in
     let v = c .before .before .before .before .before .before .before .check in
-    gives-as _ _ (printed (S .args .sheet .now)) (S .args .out .now) _ _ (sheet-passes (S .args .sheet .now) (v .result) (v .ensures) (c .before .before .before .before .before .if1 .left)) (c .before .before .write-checked .ensures)
+    gives-as _ _ (printed (S .args .sheet .now)) (S .args .out .now) _ _ _ (sheet-passes (S .args .sheet .now) (v .result) (v .ensures) (c .before .before .before .before .before .if1 .left)) (c .before .before .write-checked .ensures)
 
 pub write-listing-spec : {M : Type 1} → statement M
 write-listing-spec =

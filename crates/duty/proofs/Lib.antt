@@ -1,0 +1,5 @@
+pub mod Desking
+pub mod Answers
+pub mod Promising
+pub mod Single
+pub mod Mistakes

@@ -1,0 +1,9 @@
+pub mod Loops
+pub mod Tests
+pub mod Past
+pub mod Counting
+pub mod Places
+pub mod Standing
+pub mod Stepping
+pub mod Tracing
+pub mod Meaning
