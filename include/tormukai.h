@@ -35,7 +35,7 @@ extern "C" {
 #endif
 
 /* The library's version. */
-#define TORMUKAI_VERSION "0.6.1"
+#define TORMUKAI_VERSION "0.6.0"
 
 /* The longest sheet, in words and in bytes of its file: 6 + 4 * 512 + 4 * 2048 words. */
 #define TORMUKAI_SHEET_WORDS 10246

@@ -1,5 +1,4 @@
-/* How much stack an entry of the header takes: stack NAME BYTES; without words it prints the names, and as stack longest the
- * words of the witnesses on the sheets that are made for the longest path, a line an office.
+/* How much stack an entry of the header takes: stack NAME BYTES; without words it prints the names.
  * The entry is called on a stack of its own of just so many bytes, painted before, with a page below it that may not be touched:
  * an entry that needs more ends the program by a fault. It is called on full sheets, on one with room for a row and on damaged
  * ones, on their listings and on wrong ones, on a duty desk's full table, for what there is and for what there is not. Printed is
@@ -125,51 +124,6 @@ static void make_full(Sheet *sheet, Shape shape, uint32_t base, uint32_t office_
     sheet->bytes = 4 * length;
 }
 
-/* The longest path that leaves room for a second deed node: one person, a line of categories, the deed, the folio. */
-enum { LINE = TORMUKAI_NODES - 4, LINE_DEED = 1 + LINE, LINE_FOLIO = LINE_DEED + 2 };
-
-/* One step of a path from a category to another. A ban's goes to the one that is contained. */
-static void lead(bool ban, uint32_t from, uint32_t to)
-{
-    draw(TORMUKAI_EDGE_WITHIN, ban ? to : from, ban ? from : to);
-}
-
-/* A full sheet of two offices whose one grant path, or ban path, goes over the whole line. The second deed node applies to
- * nothing, the other kind's rights are out of reach, and steps back shorten nothing. */
-static void make_longest(Sheet *sheet, bool ban)
-{
-    const uint32_t header[] = {1, 2, TORMUKAI_NODES, TORMUKAI_EDGES, 6, 6 + 4 * TORMUKAI_NODES};
-    const uint32_t own = ban ? TORMUKAI_EDGE_BAN : TORMUKAI_EDGE_GRANT;
-    const uint32_t other = ban ? TORMUKAI_EDGE_GRANT : TORMUKAI_EDGE_BAN;
-    memset(drawn, 0, sizeof drawn);
-    edges = 0;
-    draw(TORMUKAI_EDGE_MEMBER, 0, 1);
-    draw(own, LINE, LINE_DEED);
-    draw(TORMUKAI_EDGE_APPLIES, LINE_DEED, LINE_FOLIO);
-    for (uint32_t at = 1; at < LINE; at++)
-        lead(ban, at, at + 1);
-    for (uint32_t at = 1; at <= LINE; at++) {
-        draw(own, at, LINE_DEED + 1);
-        draw(other, at, LINE_DEED + 1);
-        if (at > 1)
-            draw(other, at, LINE_DEED);
-    }
-    for (uint32_t at = 4; at <= LINE; at++)
-        lead(ban, at, at - 2);
-    memcpy(sheet->words, header, sizeof header);
-    uint32_t *words = sheet->words + LENGTH(header);
-    for (uint32_t row = 0; row < TORMUKAI_NODES; row++, words += 4) {
-        const uint32_t type = row < 1 ? 1 : row < LINE_DEED ? 2 : row < LINE_FOLIO ? 3 : 4;
-        const uint32_t numbers[] = {0, 1, row + 1, 1, FOLIO + 1};
-        const uint32_t node[] = {type, numbers[type], type == 3 ? row - LINE_DEED : 0, 3};
-        memcpy(words, node, sizeof node);
-    }
-    words += write_edges(words, 3);
-    if (words != sheet->words + TORMUKAI_SHEET_WORDS)
-        exit(3);
-    sheet->bytes = TORMUKAI_FILE_BYTES;
-}
-
 /* A full sheet of one office without its last node, which no edge has for an end, and without its last edge: a row of each can
  * be added. */
 static void make_short(Sheet *sheet, const Sheet *full)
@@ -198,7 +152,7 @@ static const uint32_t sister_b[] = {1, 1, 4, 3, 6, 22, 1, 11, 0, 1, 2, 21, 0, 1,
                                     1, 4, 42, 0, 1, 1, 0, 1, 1, 3, 1, 2, 1, 5, 2, 3, 1};
 
 #define HIGH 4294966000
-enum { GRANTS = 6, BANS, SHORT, FULL, SISTER_A = FULL, SISTER_B, CUT, LENGTHS = 6, DAMAGED = CUT + LENGTHS };
+enum { SHORT = 6, FULL = SHORT + 1, SISTER_A = FULL, SISTER_B, CUT, LENGTHS = 6, DAMAGED = CUT + LENGTHS };
 enum { SHEETS = DAMAGED + LENGTH(damages) };
 static Sheet sheets[SHEETS];
 
@@ -211,8 +165,6 @@ static void make_sheets(void)
     make_full(&sheets[3], DENSE, 1, 2, true);
     make_full(&sheets[4], RING, 1, 1, false);
     make_full(&sheets[5], CHAIN, HIGH, 1, true);
-    make_longest(&sheets[GRANTS], false);
-    make_longest(&sheets[BANS], true);
     make_short(&sheets[SHORT], &sheets[0]);
     memcpy(sheets[SISTER_A].words, sister_a, sizeof sister_a);
     sheets[SISTER_A].bytes = sizeof sister_a;
@@ -303,7 +255,6 @@ typedef struct Question {
 static const Question questions[] = {
     {1, 0, 1, 1, 2, FOLIO + 1, LAST + 1, 50000},         {1, 1, 2, 1, 3, FOLIO + 1, FIRST + 1, 50000},
     {2, 1, 2, 1, 2, FOLIO + 1, FIRST + 1, 50000},        {3, 0, 1, 1, 6, FOLIO + 1, LAST + 1, 50000},
-    {1, 1, 1, 1, 2, FOLIO + 1, LAST + 1, 50000},         {2, 0, 1, 1, 2, FOLIO + 1, LAST + 1, 50000},
     {1, 0, 3, 4, 1, FOLIO + FOLIOS, 999, 50000},         {1, 0, 1, 1, 1, FOLIO + 1, LAST + 1, 0},
     {1, 0, 999, 1, 2, FOLIO + 1, LAST + 1, 3},           {1, 0, 1, 999, 2, FOLIO + 1, LAST + 1, 1},
     {1, 0, 1, 1, 999, 999, LAST + 1, 1},                 {1, 0, HIGH, HIGH, HIGH + 1, HIGH + FOLIO, HIGH + LAST, 50000},
@@ -529,25 +480,8 @@ static void make_path(void)
     path_length = 6 + 2 * CATEGORIES;
 }
 
-/* Of grants, then of bans. */
-static int print_longest(void)
-{
-    make_sheets();
-    for (uint32_t kind = 0; kind < 2; kind++)
-        for (uint32_t office = 1; office < 3; office++) {
-            const Sheet *const sheet = &sheets[kind == 0 ? GRANTS : BANS];
-            const TormukaiAnswer answer =
-                tormukai_sheet_witness(WORDS_OF(sheet), office, kind, 1, 1, FOLIO + 1, out, LENGTH(out));
-            if (printf("%u\n", answer.count) < 0)
-                return 1;
-        }
-    return 0;
-}
-
 int main(int count, char **words)
 {
-    if (count == 2 && strcmp(words[1], "longest") == 0)
-        return print_longest();
     for (size_t i = 0; i < LENGTH(entries); i++)
         if (count == 1)
             printf("%s\n", entries[i].name);

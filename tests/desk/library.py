@@ -24,7 +24,7 @@ def text_words(text):
 def lines():
     """What tests/library.c prints. Of a result: number, sheet, row, value, count; what was written; the word after it.
     Where out is lent as bytes, it is shown as words: the machine is x86-64."""
-    yield 'version: 0.6.1'
+    yield 'version: 0.6.0'
     yield 'answer: 0 0 0 2 0; 4294967295'
     yield 'joint_answer: 0 0 0 2 1; 4294967295'
     yield 'witness: 0 0 0 0 40; 11 0 21 0 22 0 31 1 41 0 4294967295'

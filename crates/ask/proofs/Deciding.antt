@@ -1,24 +1,74 @@
--- Who an office does not know has no path there; and rows that were found place the question.
+-- What the numbers of a walk back from the folio decide: whether there is a path, and the witness.
 -- Assumes nothing.
-use Prim.Native.Nat.{ℕ, ◌<◌}
+use Prim.Native.Nat.{ℕ, suc, ◌<◌}
 use native.Mathlib.Omega.{arith}
-use mathlib.Core.Path.{◌≡◌, ◌∙◌}
-use mathlib.Core.Bool.{Bool, true, false}
+use mathlib.Core.Path.{◌≡◌, refl, ap, subst, ◌∙◌}
+use mathlib.Core.Bool.{Bool, true, false, not, true≢false, false≢true}
 use mathlib.Core.List.{List}
-use borrow.Author.Tests.{eq-eqb}
+use mathlib.Core.Logic.{⊎_elim}
+use lib.Dec.{eqb}
+use lib.ListN.{get_or}
+use borrow.Author.Tests.{eqb-true, eq-eqb}
 use Rattle.tables.specs.Key.{identity}
-use Rattle.sheet.specs.Rows.{header_of, node_at}
-use Rattle.sheet.specs.Accepted.{Accepted}
+use Rattle.sheet.specs.declared.Header.{Header}
+use Rattle.sheet.specs.declared.Seat.{Seat}
+use Rattle.sheet.specs.Rows.{header_of, node_at, edge_table}
+use Rattle.sheet.specs.Accepted.{WellFormed, Accepted}
 use Rattle.sheet.specs.Named.{node_row, seen_at}
+use Rattle.sheet.specs.Seats.{seen_from}
+use Rattle.sheet.proofs.Forming.{words_of}
 use Rattle.sheet.proofs.Naming.{node_seen, ends-seen}
+use Rattle.paths.specs.Reached.{Layers}
 use Rattle.paths.proofs.Tests.{both}
+use Rattle.paths.proofs.Distances.{zero_or}
+use Rattle.paths.proofs.Trails.{listed, numbered}
 use Rattle.meaning.specs.Paths.{Side, person, deed, folio, HasPath}
+use Rattle.meaning.specs.Answers.{Says}
 use Rattle.meaning.proofs.Axioms.{a1-a2}
+use Rattle.walk.specs.Arcs.{Steps, reversed}
+use Rattle.walk.proofs.Walking.{turned-layers}
 use Rattle.question.specs.declared.Question.{Question}
 use Rattle.question.proofs.Known.{found-class}
 use Rattle.question.specs.Asked.{stands, known}
 use Rattle.ask.specs.Placed.{Placed}
+use Rattle.ask.proofs.Links.{walk_for}
+use Rattle.ask.proofs.Bridge.{trail-path, path-trail}
 use Rattle.tables.proofs.Counts.{some_at}
+
+module _ (s t : List ℕ) (h : Header) (f : WellFormed s t h) (seat : Seat) (side : Side) (q : Question) (rp rf : ℕ) (pl : Placed s q rp rf) (dist : List ℕ)
+    (y : Layers (Steps s t (reversed (walk_for seat side q.deed)) h.edges) (λ x. x ≡ rf) dist) where
+  acc : Accepted s
+  acc = words_of s t h f
+
+  -- the numbers, over the words alone, as steps back
+  pub back-layers : Layers (λ a b. Steps s (edge_table s) (walk_for seat side q.deed) (header_of s).edges b a) (λ x. x ≡ rf) dist
+  back-layers =
+      turned-layers s (edge_table s) (walk_for seat side q.deed) (header_of s).edges (λ x. x ≡ rf) dist
+      (subst (λ (x : Header). Layers (Steps s (edge_table s) (reversed (walk_for seat side q.deed)) x.edges) (λ x. x ≡ rf) dist) f.head
+      (subst (λ (x : List ℕ). Layers (Steps s x (reversed (walk_for seat side q.deed)) h.edges) (λ x. x ≡ rf) dist) f.table y))
+
+  pub reached-path : (get_or dist rp 0 ≡ 0 → ⊥) → HasPath (seen_from s seat) side q.person q.deed q.folio
+  reached-path n = ⊎_elim (λ z. absurd (n z)) some (zero_or (get_or dist rp 0))
+    where
+      some : (m : ℕ) × (get_or dist rp 0 ≡ suc m) → HasPath (seen_from s seat) side q.person q.deed q.folio
+      some m =
+          let l = listed _ _ (back-layers.sound rp m.0 m.1) in
+          trail-path s acc seat side q.deed pl.deed-some rf q.folio pl.folio-in pl.folio-is rp q.person l.0 pl.person-is l.1
+
+  pub path-reached : HasPath (seen_from s seat) side q.person q.deed q.folio → get_or dist rp 0 ≡ 0 → ⊥
+  path-reached p z =
+      let l = path-trail s acc seat side q.deed pl.deed-some rf q.folio pl.folio-in pl.folio-is rp q.person p.words pl.person-in pl.person-is p.is in
+      let n = numbered _ _ dist back-layers l.trail in
+      let n0 = n.0 in
+      omega arith
+
+  pub reach-says : (b : Bool) → b ≡ not (eqb (get_or dist rp 0) 0) → Says b (HasPath (seen_from s seat) side q.person q.deed q.folio)
+  reach-says true e = reached-path (λ z. true≢false (e ∙ ap not (eq-eqb (get_or dist rp 0) 0 z)))
+  reach-says false e = λ p. path-reached p (zero_is (eqb (get_or dist rp 0) 0) refl)
+    where
+      zero_is : (u : Bool) → eqb (get_or dist rp 0) 0 ≡ u → get_or dist rp 0 ≡ 0
+      zero_is true d = eqb-true (get_or dist rp 0) 0 d
+      zero_is false d = absurd (false≢true (e ∙ ap not d))
 
 -- ---- who an office does not know has no path there
 

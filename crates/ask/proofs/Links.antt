@@ -102,8 +102,8 @@ module _ (s : List ℕ) (acc : Accepted s) (seat : Seat) (side : Side) (d : ℕ)
   turned-ends j a b t p q = (rw t at p, rw t at q)
 
   -- a row of another kind than 2 runs from its from row to its to row
-  pub runs_straight : (j a b : ℕ) → ((edge j).kind ≡ contained_kind → ⊥) → tail_of (walk_for seat side d) (edge j) ≡ a → head_of (walk_for seat side d) (edge j) ≡ b → ((edge j).from ≡ a) × ((edge j).to ≡ b)
-  runs_straight j a b n p q = straight-ends j a b (not-turned j n) p q
+  straight : (j a b : ℕ) → ((edge j).kind ≡ contained_kind → ⊥) → tail_of (walk_for seat side d) (edge j) ≡ a → head_of (walk_for seat side d) (edge j) ≡ b → ((edge j).from ≡ a) × ((edge j).to ≡ b)
+  straight j a b n p q = straight-ends j a b (not-turned j n) p q
 
   -- a ban's steps run against containment
   step-turn : (side : Side) (c c' : ℕ) → step g side c c' ≡ cond (eqb (right_kind side) 4) (contained g c' c) (contained g c c')
@@ -142,7 +142,7 @@ module _ (s : List ℕ) (acc : Accepted s) (seat : Seat) (side : Side) (d : ℕ)
 
     linked-one : (edge j).kind ≡ member_kind → Link a b
     linked-one e =
-        let m = runs_straight j a b (λ z. omega arith) p q in
+        let m = straight j a b (λ z. omega arith) p q in
         let c = classes 1 1 2 e (or-tail (node_at s (edge j).from).class (node_at s (edge j).to).class) in
         let x = plain-key (edge j).from 1 from_in c.0 (λ z. omega arith) in
         let y = plain-key (edge j).to 2 to_in c.1 (λ z. omega arith) in
@@ -176,7 +176,7 @@ module _ (s : List ℕ) (acc : Accepted s) (seat : Seat) (side : Side) (d : ℕ)
 
     linked-right : (edge j).kind ≡ right_kind side → (node_at s (edge j).to).number ≡ d → Link a b
     linked-right e n =
-        let m = runs_straight j a b (λ z. right-apart side (sym e ∙ z)) p q in
+        let m = straight j a b (λ z. right-apart side (sym e ∙ z)) p q in
         let c = classes (right_kind side) 2 3 e (or-tail side (node_at s (edge j).from).class (node_at s (edge j).to).class) in
         let x = plain-key (edge j).from 2 from_in c.0 (λ z. omega arith) in
         let y : node_key_at s (edge j).to ≡ deed d (node_at s (edge j).to).variant = deed-key (edge j).to c.1 ∙ ap (λ (z : ℕ). deed z (node_at s (edge j).to).variant) n in
@@ -188,7 +188,7 @@ module _ (s : List ℕ) (acc : Accepted s) (seat : Seat) (side : Side) (d : ℕ)
 
     linked-five : (edge j).kind ≡ applies_kind → Link a b
     linked-five e =
-        let m = runs_straight j a b (λ z. omega arith) p q in
+        let m = straight j a b (λ z. omega arith) p q in
         let c = classes 5 3 4 e (or-tail (node_at s (edge j).from).class (node_at s (edge j).to).class) in
         let x = deed-key (edge j).from c.0 in
         let y = plain-key (edge j).to 4 to_in c.1 (λ z. omega arith) in

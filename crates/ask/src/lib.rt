@@ -1,24 +1,24 @@
 // Questions 1 to 3: the answer at an office, the joint answer, and the witness.
 ghost use Rattle.std.specs.Prelude.{◌≡◌, true, false, ℕ, suc, ◌*◌, ◌<◌, ◌≤◌, length, get_or, take, drop, ◌++◌};
-ghost use Rattle.sheet.specs.Limits.{max_offices};
+ghost use Rattle.sheet.specs.Limits.{max_offices, max_nodes};
 ghost use Rattle.sheet.specs.Refusals.{none};
 ghost use Rattle.sheet.specs.Rows.{header_of};
 ghost use Rattle.sheet.specs.Accepted.{NodesFormed, WellFormed, Accepted};
 ghost use Rattle.sheet.specs.Found.{FirstFound};
 ghost use Rattle.sheet.specs.Named.{seen_at};
 ghost use Rattle.sheet.specs.Seats.{Seated, seen_from};
-ghost use Rattle.walk.specs.Arcs.{walk_of, of_person};
-ghost use Rattle.meaning.specs.Paths.{right_kind};
-ghost use Rattle.meaning.specs.Answers.{answered, AnswerIs, lowest, undetermined, jointly, JointAnswerIs};
+ghost use Rattle.paths.specs.Reached.{Layers};
+ghost use Rattle.walk.specs.Arcs.{Steps, walk_of, reversed};
+ghost use Rattle.meaning.specs.Paths.{right_kind, HasPath};
+ghost use Rattle.meaning.specs.Answers.{Says, answered, AnswerIs, lowest, undetermined, jointly, JointAnswerIs};
 ghost use Rattle.meaning.specs.Questions.{WitnessIs};
 ghost use Rattle.question.specs.Asked.{asked, ask_fault, joint_fault, plain, after_sheet, side_of};
 ghost use Rattle.question.specs.Replies.{Replies, Shows};
 ghost use Rattle.question.specs.Checked.{AtSeat};
-ghost use Rattle.containments.specs.Following.{PlacesNoted};
 ghost use Rattle.ask.specs.Placed.{Placed, FoundAll, unfound, StandsSo};
 ghost use Rattle.ask.specs.Promises.{AnswersAtOffice, AnswersJointly, Witnesses};
 ghost use Rattle.ask.specs.Passing.{passing, telling};
-ghost use Rattle.ask.specs.PathRows.{spelled_rows, rows_by, PathBy};
+ghost use Rattle.ask.specs.PathRows.{spelled_rows, RowsIn, WalkedBack, PathRows};
 
 use question::{Answer, OF_BANS, OF_GRANTS, Question};
 use sheet::{DEED, FOLIO, Header, PERSON, Place, Seat};
@@ -56,7 +56,7 @@ struct Stand {
     folio: u32,
 }
 
-// One place for each node row.
+// One number for each node row.
 const ROWS: usize = sheet::MAX_NODES as usize;
 
 // One number for each office.
@@ -77,11 +77,42 @@ fn places_of(sheet: &[u32], h: Header, any: bool, seat: Seat, q: Question) -> Pl
     }
 }
 
-// The walk of a side's paths from a person.
-fn walk_for(seat: Seat, kind: u32, deed: u32, person: u32) -> Walk
-    ensures { result ≡ of_person (walk_of seat (right_kind (side_of kind)) deed) person }
+// How many steps lead from each node row to a row, and one; 0 where none do.
+fn measured(sheet: &[u32], edges: &[u32], h: Header, w: Walk, to: u32) -> [u32; ROWS]
+    requires { WellFormed sheet.now edges.now h × Seated w.seat × (to < h.nodes) }
+    ensures { (length result ≡ max_nodes) × Layers (Steps sheet.now edges.now (reversed w) h.edges) (λ x. x ≡ to) result }
 {
-    walk::of_person(walk::walk_of(seat, question::right_of(kind), deed), person)
+    let mut d = walk::target(to);
+    let back = walk::reversed(w);
+    walk::layers(sheet, edges, h, back, &mut d);
+    d
+}
+
+// The walk of a side's paths.
+fn walk_for(seat: Seat, kind: u32, deed: u32) -> Walk
+    ensures { result ≡ walk_of seat (right_kind (side_of kind)) deed }
+{
+    walk::walk_of(seat, question::right_of(kind), deed)
+}
+
+// Whether a grant or a ban path is seen from the seat for the question's person, deed and folio.
+fn has_path(
+    sheet: &[u32],
+    edges: &[u32],
+    h: Header,
+    seat: Seat,
+    kind: u32,
+    q: Question,
+    rp: u32,
+    rf: u32,
+) -> bool
+    requires { AtSeat sheet.now edges.now h seat × Placed sheet.now q rp rf }
+    ensures { Says result (HasPath (seen_from sheet.now seat) (side_of kind) q.person q.deed q.folio) }
+{
+    let w = walk_for(seat, kind, q.deed);
+    let d = measured(sheet, edges, h, w, rf);
+    let i = rp as usize;
+    d[i] != 0
 }
 
 // The answer of the seat's office on placed rows: 0 Undetermined, 1 Granted, 2 Banned, 3 Both.
@@ -90,18 +121,15 @@ fn answer_at(
     edges: &[u32],
     h: Header,
     seat: Seat,
-    places: &[u16],
     q: Question,
     rp: u32,
     rf: u32,
 ) -> u32
-    requires { AtSeat sheet.now edges.now h seat × PlacesNoted h edges.now places.now × Placed sheet.now q rp rf }
+    requires { AtSeat sheet.now edges.now h seat × Placed sheet.now q rp rf }
     ensures { AnswerIs (seen_from sheet.now seat) q.person q.deed q.folio result }
 {
-    let members = exists::members_of(sheet, edges, h, seat, rp);
-    let deeds = exists::deeds_on(sheet, edges, h, seat, rf, q.deed);
-    let grants = exists::has_path(sheet, edges, h, seat, places, OF_GRANTS, members, &deeds);
-    let bans = exists::has_path(sheet, edges, h, seat, places, OF_BANS, members, &deeds);
+    let grants = has_path(sheet, edges, h, seat, OF_GRANTS, q, rp, rf);
+    let bans = has_path(sheet, edges, h, seat, OF_BANS, q, rp, rf);
     answer_number(grants, bans)
 }
 
@@ -137,16 +165,9 @@ fn unknown_of(p: Places) -> u32
     0
 }
 
-// The answer of the seat's office, by noted places. An office that does not know the person, the deed or the folio is undetermined.
-fn answer_from(
-    sheet: &[u32],
-    edges: &[u32],
-    h: Header,
-    seat: Seat,
-    places: &[u16],
-    q: Question,
-) -> u32
-    requires { AtSeat sheet.now edges.now h seat × PlacesNoted h edges.now places.now }
+// The answer of the seat's office. An office that does not know the person, the deed or the folio is undetermined.
+pub fn office_answer(sheet: &[u32], edges: &[u32], h: Header, seat: Seat, q: Question) -> u32
+    requires { AtSeat sheet.now edges.now h seat }
     ensures { AnswerIs (seen_from sheet.now seat) q.person q.deed q.folio result }
 {
     let p = places_of(sheet, h, false, seat, q);
@@ -158,21 +179,10 @@ fn answer_from(
         edges,
         h,
         seat,
-        places,
         q,
         p.person.row as u32,
         p.folio.row as u32,
     )
-}
-
-// The answer of the seat's office.
-pub fn office_answer(sheet: &[u32], edges: &[u32], h: Header, seat: Seat, q: Question) -> u32
-    requires { AtSeat sheet.now edges.now h seat }
-    ensures { AnswerIs (seen_from sheet.now seat) q.person q.deed q.folio result }
-{
-    let mut places = [0u16; ROWS];
-    containments::note_places(sheet, edges, h, &mut places);
-    answer_from(sheet, edges, h, seat, &places, q)
 }
 
 // How a question at an office stands.
@@ -208,10 +218,7 @@ fn answer_checked(sheet: &[u32], edges: &[u32], h: Header, q: Question) -> Answe
     if t.number != 0 {
         return question::refused_by(t.number);
     }
-    let mut places = [0u16; ROWS];
-    containments::note_places(sheet, edges, h, &mut places);
-    let answer = answer_at(sheet, edges, h, t.seat, &places, q, t.person, t.folio);
-    question::told(answer, 0)
+    question::told(answer_at(sheet, edges, h, t.seat, q, t.person, t.folio), 0)
 }
 
 // Question 1, the answer at an office: 0 Undetermined, 1 Granted, 2 Banned, 3 Both, in `value`.
@@ -226,20 +233,18 @@ pub fn answer_at_office(sheet: &[u32], q: Question) -> Answer
     answer_checked(sheet, sheet::edge_table(sheet, h), h, q)
 }
 
-// The answers of the offices, in order. The places serve them all.
+// The answers of the offices, in order.
 fn answers_of(sheet: &[u32], edges: &[u32], h: Header, q: Question) -> [u32; OFFICES]
     requires { WellFormed sheet.now edges.now h }
     ensures { (length result ≡ max_offices) × ((i : ℕ) → i < h.offices → AnswerIs (seen_at sheet.now (suc i)) q.person q.deed q.folio (get_or result i 0)) }
 {
-    let mut places = [0u16; ROWS];
-    containments::note_places(sheet, edges, h, &mut places);
     let mut rs = [0u32; OFFICES];
     let n = h.offices;
     let mut k: u32 = 0;
     while k < n {
         let seat = question::seat_at(k + 1);
         let at = k as usize;
-        rs[at] = answer_from(sheet, edges, h, seat, &places, q);
+        rs[at] = office_answer(sheet, edges, h, seat, q);
         k += 1;
     }
     rs
@@ -348,22 +353,38 @@ pub fn joint_answer(sheet: &[u32], q: Question) -> Answer
     joint_checked(sheet, sheet::edge_table(sheet, h), h, q)
 }
 
-// Writes the two words of each row that the notes lead to from one, n rows with it: number and variant.
-fn write_path(sheet: &[u32], h: Header, note: &[u16], from: u32, n: u32, out: &mut [u32])
-    requires { NodesFormed sheet.now h × PathBy sheet.now h.nodes note.now from n × (2 * n ≤ length out.old) }
-    ensures { out.new ≡ spelled_rows sheet.now (rows_by note.now from n) ++ drop (2 * n) out.old }
+// Writes the two words of each of the first n rows that are named, number and variant.
+fn write_nodes(sheet: &[u32], h: Header, rows: [u32; ROWS], n: usize, out: &mut [u32])
+    requires { NodesFormed sheet.now h × RowsIn h.nodes rows n × (n ≤ length rows) × (2 * n ≤ length out.old) }
+    ensures { out.new ≡ spelled_rows sheet.now (take n rows) ++ drop (2 * n) out.old }
 {
-    let m = n as usize;
-    let mut at = from;
     let mut i: usize = 0;
-    while i < m {
-        let row = at as usize;
-        let r = sheet::node_at(sheet, row);
+    while i < n {
+        let r = sheet::node_at(sheet, rows[i] as usize);
         out[2 * i] = r.number;
         out[2 * i + 1] = r.variant;
-        at = walk::wide(note[row]);
         i += 1;
     }
+}
+
+// The rows of the best path from the person's row on, in front.
+fn path_rows(
+    sheet: &[u32],
+    edges: &[u32],
+    h: Header,
+    seat: Seat,
+    q: Question,
+    d: [u32; ROWS],
+    rp: u32,
+    rf: u32,
+) -> [u32; ROWS]
+    requires { AtSeat sheet.now edges.now h seat × Placed sheet.now q rp rf × WalkedBack sheet.now edges.now h seat q rf d × (0 < get_or d rp 0) }
+    ensures { PathRows sheet.now h.nodes seat q (get_or d rp 0) result }
+{
+    let mut rows = [0u32; ROWS];
+    let w = walk_for(seat, q.kind, q.deed);
+    walk::write_path(sheet, edges, h, w, &d, rp, &mut rows);
+    rows
 }
 
 // Question 3 where the question stands: 26 where there is no path, 25 where it is longer than the output.
@@ -380,17 +401,19 @@ fn witness_at(
     requires { AtSeat sheet.now edges.now h seat × Placed sheet.now q rp rf }
     ensures { Shows none (WitnessIs (seen_from sheet.now seat) (side_of q.kind) q.person q.deed q.folio) out.old result out.new }
 {
-    let w = walk_for(seat, q.kind, q.deed, rp);
-    let mut note = walk::blank_notes();
-    let seen = walk::walk_back(sheet, edges, h, w, rf, &mut note);
-    if !bits::is_in(&seen, rp) {
+    let w = walk_for(seat, q.kind, q.deed);
+    let d = measured(sheet, edges, h, w, rf);
+    let i = rp as usize;
+    let n = d[i];
+    if n == 0 {
         return question::refused_by(26);
     }
-    let n = walk::count_notes(&note, rp, rf) + 1;
-    if out.len() < 2 * (n as usize) {
+    let rows = path_rows(sheet, edges, h, seat, q, d, rp, rf);
+    let m = n as usize;
+    if out.len() < 2 * m {
         return question::refused_by(25);
     }
-    write_path(sheet, h, &note, rp, n, out);
+    write_nodes(sheet, h, rows, m, out);
     question::told(0, 2 * n)
 }
 

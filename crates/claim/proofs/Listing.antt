@@ -3,10 +3,10 @@
 use Prim.Native.Nat.{ℕ, zero, suc, ◌+◌, ◌-◌, ◌*◌, ◌/◌, ◌%◌, ◌<◌, ◌≤◌}
 use native.Mathlib.Omega.{arith}
 use mathlib.Core.Path.{◌≡◌, refl, sym, ap, subst, ◌∙◌}
-use mathlib.Core.Bool.{Bool, true, false, not, ◌&&◌, ◌||◌, false≢true}
+use mathlib.Core.Bool.{Bool, true, false, not, ◌&&◌, ◌||◌, beq, false≢true}
 use mathlib.Core.List.{List, [], ◌∷◌, ◌++◌}
 use mathlib.Core.Logic.{⊎_elim}
-use lib.Dec.{ltb, eqb}
+use lib.Dec.{ltb, eqb, eqb-zero-suc, eqb-suc-zero}
 use lib.ListN.{length, get_or, drop}
 use borrow.Author.Tests.{ltb-true, ltb-false, eqb-true, eqb-false, eq-eqb}
 use Rattle.tables.specs.Count.{number_of}
@@ -32,7 +32,7 @@ use Rattle.meaning.specs.Paths.{Side, right_kind, category, deed, member, contai
 use Rattle.meaning.proofs.Spelling.{spelt, spell-long}
 use Rattle.question.specs.declared.Question.{Question}
 use Rattle.question.specs.Asked.{side_of, seat_for, asked, bad_office}
-use Rattle.claim.specs.Listed.{every_second, plain_from, framed, way_from}
+use Rattle.claim.specs.Listed.{every_second, has_second, framed, way_from, goes_on}
 use Rattle.question.specs.Checked.{AtSeat}
 use Rattle.sheet.proofs.Forming.{words_of}
 use Rattle.sheet.proofs.Reading.{row_under}
@@ -55,8 +55,10 @@ module _ (s t : List ℕ) (h : Header) (seat : Seat) (o : AtSeat s t h seat) whe
   abbrev InEdges : Key → Place → Type 0
   InEdges k p = FoundIs (λ j. edge_key (edge_of s j)) h.edges k p
 
-  pub node-there : (k : Key) (p : Place) → InNodes k p → p.found ≡ true → (p.row < h.nodes) × (node_key_at s p.row ≡ k)
-  node-there k p f e = found-there (node_key_at s) h.nodes o.formed.nodes.rise k p f e
+  node-there : (k : Key) (p : Place) → InNodes k p → p.found ≡ true → (p.row < (header_of s).nodes) × (node_key_at s p.row ≡ k)
+  node-there k p f e =
+      let x = found-there (node_key_at s) h.nodes o.formed.nodes.rise k p f e in
+      (subst (λ (y : Header). p.row < y.nodes) o.formed.head x.0, x.1)
 
   edges-up-to : RowsRise (λ j. edge_key (edge_of s j)) h.edges
   edges-up-to = half-rises Edges s h own-edges
@@ -71,62 +73,52 @@ module _ (s t : List ℕ) (h : Header) (seat : Seat) (o : AtSeat s t h seat) whe
       let r = node_seen s acc seat.office k n in
       found-not (node_key_at s) h.nodes o.formed.nodes.rise k p f e r.row (subst (λ (y : Header). r.row < y.nodes) (sym o.formed.head) r.inside) r.names
 
-  -- what is not seen is told as false
-  unseen : (x : Key) → ((seen_from s seat).edge x ≡ true → ⊥) → false ≡ (seen_from s seat).edge x
-  unseen x n = go ((seen_from s seat).edge x) refl
-    where
-      go : (b : Bool) → (seen_from s seat).edge x ≡ b → false ≡ (seen_from s seat).edge x
-      go false e = sym e
-      go true e = absurd (n e)
-
-  -- the relation between two node rows: its edge row is the one between them
-  module _ (kind i j : ℕ) (il : i < h.nodes) (jl : j < h.nodes) (k : Key) (named : k ≡ identity kind i j) (p : Place) (x : InEdges k p) where
-    abbrev between : Key
-    between = relation kind (node_key_at s i) (node_key_at s j)
-
-    pub not-edge : p.found ≡ false → false ≡ (seen_from s seat).edge between
-    not-edge n =
-        unseen between
-        (λ y.
-        let r = edge-seen s acc seat.office _ y in
-        let z = named-rows s acc r.row kind i j r.inside (subst (λ (y : Header). i < y.nodes) o.formed.head il) (subst (λ (y : Header). j < y.nodes) o.formed.head jl) r.names in
-        found-not (λ j. edge_key (edge_of s j)) h.edges edges-up-to k p x n r.row (subst (λ (y : Header). r.row < y.edges) (sym o.formed.head) r.inside) (z ∙ sym named))
-
-    pub edge-counts : p.found ≡ true → (d : Edge) (r : Bool) → d ≡ edge_at h t p.row → r ≡ counts_at seat d → r ≡ (seen_from s seat).edge between
-    edge-counts y d r m z =
-        let w = edge-there k p x y in
-        let n = rows_named s p.row kind i j (w.1 ∙ named) in
-        let l = subst (λ (y : Header). p.row < y.edges) o.formed.head w.0 in
-        let own : d ≡ edge_of s p.row = m ∙ row_under s t h o.formed p.row ∙ ap (λ (y : List ℕ). edge_at (header_of s) y p.row) o.formed.table in
-        z ∙ ap (λ (y : Edge). counts_at seat y) own ∙ sym (row_seen s acc seat.office p.row l) ∙ ap (λ (y : Key). (seen_from s seat).edge y) n
-
-  -- the relation between two identities
   module _ (kind : ℕ) (a b : Cells) where
     abbrev seen : Bool
     seen = (seen_from s seat).edge (relation kind (row_key a) (row_key b))
+
+    none : (seen ≡ true → ⊥) → false ≡ seen
+    none n = go seen refl
+      where
+        go : (x : Bool) → seen ≡ x → false ≡ seen
+        go false e = sym e
+        go true e = absurd (n e)
 
     ends : seen ≡ true → ((seen_from s seat).node (row_key a) ≡ true) × ((seen_from s seat).node (row_key b) ≡ true)
     ends e = let x = ends-seen s acc seat.office kind _ _ _ _ _ _ e in (x.0, x.1)
 
     pub not-from : (p : Place) → InNodes (row_key a) p → p.found ≡ false → false ≡ seen
-    not-from p f e = unseen _ (λ g. no_node (row_key a) p f e (ends g).0)
+    not-from p f e = none (λ g. no_node (row_key a) p f e (ends g).0)
 
     pub not-to : (p : Place) → InNodes (row_key b) p → p.found ≡ false → false ≡ seen
-    not-to p f e = unseen _ (λ g. no_node (row_key b) p f e (ends g).1)
+    not-to p f e = none (λ g. no_node (row_key b) p f e (ends g).1)
 
-    -- both ends were found: it is that between their rows
-    pub by_rows : (p q : Place) (r : Bool) → InNodes (row_key a) p → p.found ≡ true → InNodes (row_key b) q → q.found ≡ true
-        → r ≡ (seen_from s seat).edge (relation kind (node_key_at s p.row) (node_key_at s q.row)) → r ≡ seen
-    by_rows p q r f pf g qf e =
-        let u = (node-there (row_key a) p f pf).1 in
-        let v = (node-there (row_key b) q g qf).1 in
-        e ∙ (λ i. (seen_from s seat).edge (relation kind (u i) (v i)))
+    -- both ends were found: the relation's row is the one between their rows
+    module _ (p q : Place) (f : InNodes (row_key a) p) (pf : p.found ≡ true) (g : InNodes (row_key b) q) (qf : q.found ≡ true) (k : Key) (named : k ≡ identity kind p.row q.row) (e : Place) (x : InEdges k e) where
+      by-ends : relation kind (node_key_at s p.row) (node_key_at s q.row) ≡ relation kind (row_key a) (row_key b)
+      by-ends = let u = (node-there (row_key a) p f pf).1 in let v = (node-there (row_key b) q g qf).1 in λ i. relation kind (u i) (v i)
+
+      pub not-edge : e.found ≡ false → false ≡ seen
+      not-edge n =
+          none
+          (λ y.
+          let r = edge-seen s acc seat.office _ y in
+          let z = named-rows s acc r.row kind p.row q.row r.inside (node-there (row_key a) p f pf).0 (node-there (row_key b) q g qf).0 (r.names ∙ sym by-ends) in
+          found-not (λ j. edge_key (edge_of s j)) h.edges edges-up-to k e x n r.row (subst (λ (y : Header). r.row < y.edges) (sym o.formed.head) r.inside) (z ∙ sym named))
+
+      pub edge-counts : e.found ≡ true → (d : Edge) (r : Bool) → d ≡ edge_at h t e.row → r ≡ counts_at seat d → r ≡ seen
+      edge-counts y d r m z =
+          let w = edge-there k e x y in
+          let n = rows_named s e.row kind p.row q.row (w.1 ∙ named) ∙ by-ends in
+          let l = subst (λ (y : Header). e.row < y.edges) o.formed.head w.0 in
+          let own : d ≡ edge_of s e.row = m ∙ row_under s t h o.formed e.row ∙ ap (λ (y : List ℕ). edge_at (header_of s) y e.row) o.formed.table in
+          z ∙ ap (λ (y : Edge). counts_at seat y) own ∙ sym (row_seen s acc seat.office e.row l) ∙ ap (λ (y : Key). (seen_from s seat).edge y) n
 
 -- ---- relations between named identities
 
 module _ (g : View) where
-  pub relation-named : (kind : ℕ) (k l x y : Key) (r : Bool) → k ≡ x → l ≡ y → r ≡ g.edge (relation kind k l) → r ≡ g.edge (relation kind x y)
-  relation-named kind k l x y r e f q = q ∙ ap (λ (z : Key). g.edge (relation kind z l)) e ∙ ap (λ (z : Key). g.edge (relation kind x z)) f
+  pub relation-named : (kind : ℕ) (a b : Cells) (x y : Key) (r : Bool) → row_key a ≡ x → row_key b ≡ y → r ≡ g.edge (relation kind (row_key a) (row_key b)) → r ≡ g.edge (relation kind x y)
+  relation-named kind a b x y r e f q = q ∙ ap (λ (z : Key). g.edge (relation kind z (row_key b))) e ∙ ap (λ (z : Key). g.edge (relation kind x z)) f
 
   pub step-grant : (kind c d : ℕ) (r : Bool) → kind ≡ 0 → r ≡ contained g c d → r ≡ step g (side_of kind) c d
   step-grant kind c d r e q = q ∙ ap (λ (z : Side). step g z c d) (sym (side-grant kind e))
@@ -139,20 +131,39 @@ module _ (g : View) where
 
 -- ---- every second word
 
-module _ (ws : List ℕ) where
-  pub plain_turn : (at left : ℕ) (b : Bool) → 0 < left → eqb (get_or ws at 0) 0 ≡ b → plain_from ws at left ≡ (b && plain_from ws (at + 2) (left - 1))
-  plain_turn at zero b l q = absurd (omega (arith, l))
-  plain_turn at (suc left) b l q =
+module _ (ws : List ℕ) (c : ℕ) (same : Bool) where
+  second-turn : (at left : ℕ) → 0 < left → has_second ws c same at left ≡ (beq (eqb c (get_or ws at 0)) same || has_second ws c same (at + 2) (left - 1))
+  second-turn at zero l = absurd (omega (arith, l))
+  second-turn at (suc left) l =
       let e : at + 2 ≡ suc (suc at) = omega arith in
       let d : suc left - 1 ≡ left = omega arith in
-      rw (e, d, q) refl
+      rw (e, d) refl
 
-  pub plain_end : (at left : ℕ) → left ≤ 0 → plain_from ws at left ≡ true
-  plain_end at left l = let e : left ≡ 0 = omega arith in rw e refl
+  pub second-by : (at left : ℕ) (b : Bool) → 0 < left → beq (eqb c (get_or ws at 0)) same ≡ b → has_second ws c same at left ≡ (b || has_second ws c same (at + 2) (left - 1))
+  second-by at left b l e = second-turn at left l ∙ ap (λ (x : Bool). x || has_second ws c same (at + 2) (left - 1)) e
 
-plain-shift : (x : ℕ) (ws : List ℕ) (at m : ℕ) → plain_from (x ∷ ws) (suc at) m ≡ plain_from ws at m
+  pub second_none : (at left : ℕ) → left ≤ 0 → has_second ws c same at left ≡ false
+  second_none at left l = let e : left ≡ 0 = omega arith in rw e refl
+
+same_true : (b : Bool) → beq b true ≡ b
+same_true true = refl
+same_true false = refl
+
+second-among : (ws : List ℕ) (c at m : ℕ) → among c (every_second ws at m) ≡ has_second ws c true at m
+second-among ws c at zero = refl
+second-among ws c at (suc m) = rw (same_true (eqb c (get_or ws at 0)), second-among ws c (suc (suc at)) m) refl
+
+-- every second word is 0, m of them from a place on
+abbrev plain_from : List ℕ → ℕ → ℕ → Bool
+plain_from ws at m = not (has_second ws 0 false at m)
+
+plain-first : (y : ℕ) (b : Bool) → not (beq (eqb 0 y) false || b) ≡ (eqb y 0 && not b)
+plain-first zero b = refl
+plain-first (suc y) b = rw (eqb-zero-suc y, eqb-suc-zero y) refl
+
+plain-shift : (x : ℕ) (ws : List ℕ) (at m : ℕ) → has_second (x ∷ ws) 0 false (suc at) m ≡ has_second ws 0 false at m
 plain-shift x ws at zero = refl
-plain-shift x ws at (suc m) = ap (λ (b : Bool). eqb (get_or ws at 0) 0 && b) (plain-shift x ws (suc (suc at)) m)
+plain-shift x ws at (suc m) = ap (λ (b : Bool). beq (eqb 0 (get_or ws at 0)) false || b) (plain-shift x ws (suc (suc at)) m)
 
 second-shift : (x : ℕ) (ws : List ℕ) (at m : ℕ) → every_second (x ∷ ws) (suc at) m ≡ every_second ws at m
 second-shift x ws at zero = refl
@@ -175,7 +186,7 @@ and-with-true : (a : Bool) → (a && true) ≡ a
 and-with-true true = refl
 and-with-true false = refl
 
-pub and-swap : (a b : Bool) → (a && b) ≡ (b && a)
+and-swap : (a b : Bool) → (a && b) ≡ (b && a)
 and-swap true true = refl
 and-swap true false = refl
 and-swap false true = refl
@@ -202,7 +213,7 @@ rest-same (suc m) (suc zero) ws d f q e = absurd (omega (arith, q))
 rest-same (suc m) (suc (suc n)) [] d f q e = absurd (omega (arith, e))
 rest-same (suc m) (suc (suc n)) (x ∷ []) d f q e = absurd (omega (arith, e))
 rest-same (suc m) (suc (suc n)) (x ∷ y ∷ ws) d f q e =
-    rw (eq-eqb x x refl, plain-shift x (y ∷ ws) 2 m, plain-shift y ws 1 m, rest-same m n ws d f (omega (arith, q)) (omega (arith, e)))
+    rw (eq-eqb x x refl, plain-first y (has_second (x ∷ y ∷ ws) 0 false 3 m), plain-shift x (y ∷ ws) 2 m, plain-shift y ws 1 m, rest-same m n ws d f (omega (arith, q)) (omega (arith, e)))
     (and_assoc (eqb y 0) (plain_from ws 1 m) _)
 
 module _ (g : View) (side : Side) (p d f : ℕ) where
@@ -222,7 +233,7 @@ module _ (g : View) (side : Side) (p d f : ℕ) where
       (ap (λ (b : Bool). eqb x p && (eqb y 0 && b)) (rest-same (suc m) (suc (suc n)) ws d f (omega arith) (omega arith))
       ∙ third_last (eqb x p) (eqb y 0) (plain_from ws 1 (suc m)) _
       ∙ ap (λ (b : Bool). (eqb x p && (eqb y 0 && (eqb (get_or ws (suc (suc n)) 0) d && (eqb (get_or ws (suc (suc (suc (suc n)))) 0) f && eqb (get_or ws (suc (suc (suc (suc (suc n))))) 0) 0)))) && b)
-      (sym (plain-shift y ws 1 (suc m)) ∙ sym (plain-shift x (y ∷ ws) 2 (suc m))))
+      (ap not (sym (plain-shift y ws 1 (suc m)) ∙ sym (plain-shift x (y ∷ ws) 2 (suc m)))))
 
   back-same : (x y : ℕ) (ws : List ℕ) (m v : ℕ) → length ws ≡ 6 + 2 * m → path g side p d f (firsts (suc m) ws) v ≡ (member g p (get_or ws 0 0) && way_from g side d v f (x ∷ y ∷ ws) 2 m)
   unfolding path way_from
@@ -259,9 +270,16 @@ module _ (g : View) (side : Side) (p d f : ℕ) where
 
 -- ---- the way by the categories, tried from its end
 
--- the category at a place leads to the next and is none of the m after it
-unfoldable pub goes_on : View → Side → List ℕ → ℕ → ℕ → Bool
-goes_on g side ws at m = step g side (get_or ws at 0) (get_or ws (at + 2) 0) && not (among (get_or ws at 0) (every_second ws (at + 2) m))
+module _ (g : View) (side : Side) (ws : List ℕ) (at m : ℕ) where
+  goes_by : (b : Bool) → has_second ws (get_or ws at 0) true (at + 2) m ≡ b → goes_on g side ws at m ≡ (step g side (get_or ws at 0) (get_or ws (at + 2) 0) && not b)
+  unfolding goes_on
+  goes_by b e = ap (λ (x : Bool). step g side (get_or ws at 0) (get_or ws (at + 2) 0) && not x) (second-among ws (get_or ws at 0) (at + 2) m ∙ e)
+
+  pub goes-again : has_second ws (get_or ws at 0) true (at + 2) m ≡ true → false ≡ goes_on g side ws at m
+  goes-again e = sym (goes_by true e ∙ and-swap (step g side (get_or ws at 0) (get_or ws (at + 2) 0)) false)
+
+  pub goes-new : (r : Bool) → has_second ws (get_or ws at 0) true (at + 2) m ≡ false → r ≡ step g side (get_or ws at 0) (get_or ws (at + 2) 0) → r ≡ goes_on g side ws at m
+  goes-new r e q = q ∙ sym (goes_by false e ∙ and-with-true (step g side (get_or ws at 0) (get_or ws (at + 2) 0)))
 
 module _ (g : View) (side : Side) (d v f : ℕ) (ws : List ℕ) where
   pub way_end : (at : ℕ) → way_from g side d v f ws at 0 ≡ carries g side d v f (get_or ws at 0)

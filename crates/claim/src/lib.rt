@@ -1,44 +1,19 @@
 // Question 4: whether a list of words, claimed to be a grant or ban path, is one.
-ghost use Rattle.std.specs.Prelude.{◌≡◌, List, ℕ, ◌+◌, ◌*◌, ◌<◌, ◌≤◌, length, get_or};
+ghost use Rattle.std.specs.Prelude.{◌≡◌, ◌+◌, ◌*◌, ◌<◌, ◌≤◌, length, get_or};
 ghost use Rattle.tables.specs.Count.{number_of};
 ghost use Rattle.tables.specs.Key.{relation};
-ghost use Rattle.sheet.specs.Rows.{header_of, row_key, node_key_at};
-ghost use Rattle.sheet.specs.Accepted.{NodesFormed, WellFormed};
-ghost use Rattle.sheet.specs.Found.{FoundIs};
-ghost use Rattle.sheet.specs.Seats.{seen_from};
-ghost use Rattle.bits.specs.Sets.{set_words};
-ghost use Rattle.meaning.specs.Paths.{category, member, step, carries, is_path};
+ghost use Rattle.sheet.specs.Rows.{header_of, row_key};
+ghost use Rattle.sheet.specs.Accepted.{WellFormed};
+ghost use Rattle.sheet.specs.Seats.{Seated, seen_from};
+ghost use Rattle.meaning.specs.Paths.{member, step, carries, is_path};
 ghost use Rattle.question.specs.Asked.{asked, bad_office, plain, side_of};
 ghost use Rattle.question.specs.Replies.{Replies};
 ghost use Rattle.question.specs.Checked.{AtSeat};
-ghost use Rattle.claim.specs.Listed.{plain_from, framed, way_from, CategoryRow, Noted, TurnTells};
+ghost use Rattle.claim.specs.Listed.{has_second, framed, way_from, goes_on};
 ghost use Rattle.claim.specs.Promises.{TellsPath};
 
 use question::{Answer, OF_GRANTS, Question};
-use sheet::{
-    APPLIES, CATEGORY, CONTAINED, Cells, DEED, FOLIO, Half, Header, MEMBER, PERSON, Place, Seat,
-};
-
-// Whether an edge row of a kind runs from the one node row to the other and counts for the seat: it is looked up by halving.
-fn is_joined(
-    sheet: &[u32],
-    edges: &[u32],
-    h: Header,
-    seat: Seat,
-    kind: u32,
-    from: u32,
-    to: u32,
-) -> bool
-    requires { AtSeat sheet.now edges.now h seat × (from < h.nodes) × (to < h.nodes) }
-    ensures { result ≡ (seen_from sheet.now seat).edge (relation kind (node_key_at sheet.now from) (node_key_at sheet.now to)) }
-{
-    let wanted = sheet::named(kind, from, to);
-    let edge = sheet::find_row(Half::Edges, sheet, h, wanted);
-    if !edge.found {
-        return false;
-    }
-    sheet::counts(seat, sheet::edge_at(edges, h, edge.row))
-}
+use sheet::{APPLIES, CATEGORY, CONTAINED, Cells, DEED, FOLIO, Half, Header, MEMBER, PERSON, Seat};
 
 // Whether a relation of a kind between two identities is seen from the seat: both are looked for, then the edge row between their rows.
 fn is_related(
@@ -61,7 +36,12 @@ fn is_related(
     if !to.found {
         return false;
     }
-    is_joined(sheet, edges, h, seat, kind, from.row as u32, to.row as u32)
+    let wanted = sheet::named(kind, from.row as u32, to.row as u32);
+    let edge = sheet::find_row(Half::Edges, sheet, h, wanted);
+    if !edge.found {
+        return false;
+    }
+    sheet::counts(seat, sheet::edge_at(edges, h, edge.row))
 }
 
 // Whether the person is a member of the category.
@@ -74,32 +54,17 @@ fn is_member(sheet: &[u32], edges: &[u32], h: Header, seat: Seat, p: u32, c: u32
     is_related(sheet, edges, h, seat, MEMBER, a, b)
 }
 
-// Where a category stands among the node rows.
-fn category_row(sheet: &[u32], h: Header, c: u32) -> Place
-    requires { NodesFormed sheet.now h }
-    ensures { FoundIs (node_key_at sheet.now) h.nodes (category c) result }
+// Whether a side's paths lead from the one category to the other.
+fn is_step(sheet: &[u32], edges: &[u32], h: Header, seat: Seat, kind: u32, c: u32, d: u32) -> bool
+    requires { AtSeat sheet.now edges.now h seat }
+    ensures { result ≡ step (seen_from sheet.now seat) (side_of kind) c d }
 {
-    let wanted = sheet::named(CATEGORY, c, 0);
-    sheet::find_row(Half::Nodes, sheet, h, wanted)
-}
-
-// Whether a side's paths lead from the category of the one node row to that of the other.
-fn is_step(
-    sheet: &[u32],
-    edges: &[u32],
-    h: Header,
-    seat: Seat,
-    kind: u32,
-    from: u32,
-    to: u32,
-) -> bool
-    requires { AtSeat sheet.now edges.now h seat × (from < h.nodes) × (to < h.nodes) }
-    ensures { (c d : ℕ) → CategoryRow sheet.now h.nodes c from → CategoryRow sheet.now h.nodes d to → result ≡ step (seen_from sheet.now seat) (side_of kind) c d }
-{
+    let a = sheet::named(CATEGORY, c, 0);
+    let b = sheet::named(CATEGORY, d, 0);
     if kind == OF_GRANTS {
-        return is_joined(sheet, edges, h, seat, CONTAINED, from, to);
+        return is_related(sheet, edges, h, seat, CONTAINED, a, b);
     }
-    is_joined(sheet, edges, h, seat, CONTAINED, to, from)
+    is_related(sheet, edges, h, seat, CONTAINED, b, a)
 }
 
 // Whether a category has the side's right on the question's deed in the variant, which applies to the folio.
@@ -123,21 +88,21 @@ fn is_carried(
         & is_related(sheet, edges, h, seat, APPLIES, b, t)
 }
 
-// Whether every second word, m of them from a place on, is 0.
-fn is_plain(list: &[u32], from: usize, m: usize) -> bool
+// Whether one of every second word, m of them from a place on, is c, or is not c where `same` is false.
+fn has_second(list: &[u32], from: usize, m: usize, c: u32, same: bool) -> bool
     requires { from + 2 * m ≤ length list.now }
-    ensures { result ≡ plain_from list.now from m }
+    ensures { result ≡ has_second list.now c same from m }
 {
     let mut at = from;
     let mut left = m;
     while 0 < left {
-        if list[at] != 0 {
-            return false;
+        if (c == list[at]) == same {
+            return true;
         }
         at += 2;
         left -= 1;
     }
-    true
+    false
 }
 
 // Whether the words before and behind the categories, m of them after the first, are the question's person, deed and folio.
@@ -151,37 +116,26 @@ fn is_framed(list: &[u32], m: usize, q: Question) -> bool
                 & ((list[6 + 2 * m] == q.folio) & (list[7 + 2 * m] == 0))))
 }
 
-// One turn of the way from its end: the row of category c, where it leads to the category of row `next` and is not among the rows seen; it is one of them then.
-fn row_onward(
+// Whether the category at a place leads to the next and is none of the m after it.
+fn is_onward(
     sheet: &[u32],
     edges: &[u32],
     h: Header,
     seat: Seat,
     kind: u32,
-    c: u32,
-    next: u32,
-    seen: &mut [u64],
-) -> Place
-    requires { AtSeat sheet.now edges.now h seat × (next < h.nodes) × (length seen.old ≡ set_words) }
-    ensures { (d : ℕ) (cs : List ℕ) → CategoryRow sheet.now h.nodes d next → Noted sheet.now h.nodes cs seen.old → TurnTells sheet.now h.nodes (seen_from sheet.now seat) (side_of kind) c d cs seen.new result }
+    list: &[u32],
+    at: usize,
+    m: usize,
+) -> bool
+    requires { AtSeat sheet.now edges.now h seat × (0 < m) × (at + 2 + 2 * m ≤ length list.now) }
+    ensures { result ≡ goes_on (seen_from sheet.now seat) (side_of kind) list.now at m }
 {
-    let p = category_row(sheet, h, c);
-    let nowhere = Place {
-        found: false,
-        row: p.row,
-    };
-    if !p.found {
-        return nowhere;
+    let c = list[at];
+    let d = list[at + 2];
+    if has_second(list, at + 2, m, c, true) {
+        return false;
     }
-    let row = p.row as u32;
-    if bits::is_in(seen, row) {
-        return nowhere;
-    }
-    if !is_step(sheet, edges, h, seat, kind, row, next) {
-        return nowhere;
-    }
-    bits::put_in(seen, row);
-    p
+    is_step(sheet, edges, h, seat, kind, c, d)
 }
 
 // Whether the first category leads by the m after it, all distinct, to one with the right. The way is tried from its end, so that a list of any length costs no more turns than there are categories.
@@ -202,22 +156,13 @@ fn is_way(
     if !is_carried(sheet, edges, h, seat, q, v, c) {
         return false;
     }
-    let last = category_row(sheet, h, c);
-    if !last.found {
-        return false;
-    }
-    let mut next = last.row as u32;
-    let mut seen = bits::no_rows();
-    bits::put_in(&mut seen, next);
     let mut n: usize = 0;
     while n < m {
         let at = 2 * (m - n);
         n += 1;
-        let p = row_onward(sheet, edges, h, seat, q.kind, list[at], next, &mut seen);
-        if !p.found {
+        if !is_onward(sheet, edges, h, seat, q.kind, list, at, n) {
             return false;
         }
-        next = p.row as u32;
     }
     true
 }
@@ -242,7 +187,7 @@ fn is_path_at(
     if !is_framed(list, m, q) {
         return false;
     }
-    if !is_plain(list, 3, m + 1) {
+    if has_second(list, 3, m + 1, 0, false) {
         return false;
     }
     if !is_member(sheet, edges, h, seat, q.person, list[2]) {

@@ -1,59 +1,56 @@
--- Walks from the deed rows of a number: what they tell of each row.
+-- Runs from the deed rows of a number: what their numbers tell of each row.
 -- Assumes nothing.
 use Prim.Native.Nat.{ℕ, ◌<◌}
-use mathlib.Core.Path.{◌≡◌}
+use mathlib.Core.Path.{◌≡◌, ap, ◌∙◌}
 use mathlib.Core.Bool.{true}
 use mathlib.Core.List.{List}
-use lib.ListN.{length}
+use lib.Dec.{eqb}
+use lib.ListN.{length, get_or}
 use borrow.Author.Tests.{eqb-true, eq-eqb}
+use Rattle.tables.specs.Count.{number_of}
 use Rattle.sheet.specs.Kinds.{deed_type}
 use Rattle.sheet.specs.declared.Header.{Header}
+use Rattle.sheet.specs.declared.Node.{Node}
 use Rattle.sheet.specs.declared.Seat.{Seat}
+use Rattle.sheet.specs.Limits.{max_nodes}
 use Rattle.sheet.specs.Rows.{node_at}
-use Rattle.bits.specs.Sets.{in_set, set_words}
-use Rattle.paths.specs.Reached.{Closes, In}
+use Rattle.paths.specs.Reached.{Layers, Starts}
 use Rattle.paths.proofs.Tests.{and_left, and_right, both}
 use Rattle.walk.specs.declared.Walk.{Walk}
 use Rattle.walk.specs.Arcs.{Steps, walk_of, Arranged}
 use Rattle.question.specs.Checked.{AtSeat}
 use Rattle.reach.specs.Reaching.{LeadsTo, ByDeed}
-use Rattle.least.specs.Least.{Prepared, deed_in, deed_of, DeedStarts, RowsByDeed}
-use Rattle.reach.proofs.Marking.{ready_at, starts-tell}
-
--- ---- what the test of a deed's row says
-
-module _ (s rows : List ℕ) (x : ℕ) where
-  pub deed-in : deed_in s rows x ≡ true → (in_set rows x ≡ true) × ((node_at s x).class ≡ deed_type)
-  unfolding deed_in
-  deed-in e = (and_left (in_set rows x) _ e, eqb-true (node_at s x).class deed_type (and_right (in_set rows x) _ e))
-
-  pub in-deed : in_set rows x ≡ true → (node_at s x).class ≡ deed_type → deed_in s rows x ≡ true
-  unfolding deed_in
-  in-deed i c = both i (eq-eqb (node_at s x).class deed_type c)
-
-  pub deed-numbered : (number : ℕ) → deed_of s rows number x ≡ true → (deed_in s rows x ≡ true) × ((node_at s x).number ≡ number)
-  unfolding deed_of
-  deed-numbered number e = (and_left (deed_in s rows x) _ e, eqb-true (node_at s x).number number (and_right (deed_in s rows x) _ e))
-
-  numbered-deed : (number : ℕ) → deed_in s rows x ≡ true → (node_at s x).number ≡ number → deed_of s rows number x ≡ true
-  unfolding deed_of
-  numbered-deed number e q = both e (eq-eqb (node_at s x).number number q)
+use Rattle.least.specs.Least.{Prepared, starting, DeedStarts, RowsByDeed}
+use Rattle.reach.proofs.Marking.{some_number, number-some, starts-tell}
 
 -- ---- from the deed rows of a number
 
-pub rows-by : (s t : List ℕ) (h : Header) (w : Walk) (rows : List ℕ) (number : ℕ) (starts r : List ℕ) → length r ≡ set_words → DeedStarts s h.nodes rows number starts → Closes (Steps s t w h.edges) (In (in_set starts)) (in_set r) → RowsByDeed s t h w rows number r
-rows-by s t h w rows number starts r e st y = record { long = e; each = λ i. starts-tell s t h w (λ x. deed_of s rows number x ≡ true) starts r st y i (ByDeed s t h w rows number i) (from i) to }
-  where
-    from : (i x : ℕ) → x < h.nodes → deed_of s rows number x ≡ true → LeadsTo s t h w x i → ByDeed s t h w rows number i
-    from i x l e m =
-        let o = deed-numbered s rows x number e in
-        let d = deed-in s rows x o.0 in
-        record { row = x; inside = l; class = d.1; numbered = o.1; marked-so = d.0; leads = m }
+starting-is : (r : Node) (v number : ℕ) → starting r v number ≡ true → (r.class ≡ deed_type) × (r.number ≡ number) × (v ≡ 0 → ⊥)
+unfolding starting
+starting-is r v number e =
+    let m = and_right (eqb r.class 3) _ e in
+    (eqb-true r.class 3 (and_left (eqb r.class 3) _ e), eqb-true r.number number (and_left (eqb r.number number) _ m), some_number v (and_right (eqb r.number number) _ m))
 
-    to : {i : ℕ} → ByDeed s t h w rows number i → (x : ℕ) × (x < h.nodes) × (deed_of s rows number x ≡ true) × LeadsTo s t h w x i
-    to b = (b.row, b.inside, numbered-deed s rows b.row number (in-deed s rows b.row b.marked-so b.class) b.numbered, b.leads)
+is-starting : (r : Node) (v number : ℕ) → r.class ≡ deed_type → r.number ≡ number → (v ≡ 0 → ⊥) → starting r v number ≡ true
+unfolding starting
+is-starting r v number a b c = both (eq-eqb r.class 3 a) (both (eq-eqb r.number number b) (number-some v c))
+
+-- the number at a row that was read
+pub deed-start : (x y : Node) (u number v : ℕ) → x ≡ y → v ≡ number_of (starting x u number) → v ≡ number_of (starting y u number)
+deed-start x y u number v e q = q ∙ ap (λ (z : Node). number_of (starting z u number)) e
+
+pub rows-by : (s t : List ℕ) (h : Header) (w : Walk) (d : List ℕ) (number : ℕ) (r₀ r : List ℕ) → length r ≡ max_nodes → DeedStarts s h.nodes d number r₀ → Layers (Steps s t w h.edges) (Starts r₀) r → RowsByDeed s t h w d number r
+rows-by s t h w d number r₀ r e st y = record { long = e; each = λ i l. starts-tell s t h w (λ x. starting (node_at s x) (get_or d x 0) number) r₀ r st y i (ByDeed s t h w d number i) (from i) to }
+  where
+    from : (i x : ℕ) → x < h.nodes → starting (node_at s x) (get_or d x 0) number ≡ true → LeadsTo s t h w x i → ByDeed s t h w d number i
+    from i x l e m =
+        let z = starting-is (node_at s x) (get_or d x 0) number e in
+        record { row = x; inside = l; class = z.0; numbered = z.1; marked-so = z.2; leads = m }
+
+    to : {i : ℕ} → ByDeed s t h w d number i → (x : ℕ) × (x < h.nodes) × (starting (node_at s x) (get_or d x 0) number ≡ true) × LeadsTo s t h w x i
+    to b = (b.row, b.inside, is-starting (node_at s b.row) (get_or d b.row 0) number b.class b.numbered b.marked-so, b.leads)
 
 -- a walk for any deed from the seat of another, and its arcs in order
 pub prepared : (s t : List ℕ) (h : Header) (seat : Seat) → AtSeat s t h seat → (v : Walk) (other : ℕ) → v ≡ walk_of seat other 0 → (w : Walk) (right : ℕ) → w ≡ walk_of seat right 0
     → (index : List ℕ) → Arranged s t h w index → Prepared s t h v.seat right w index
-prepared s t h seat at v other q w right e index a = rw q (record { walks = e; ready = ready_at s t h seat at right 0 w e; arranged = a })
+prepared s t h seat at v other q w right e index a = rw q (record { walks = e; seated = rw e at.seated; arranged = a })

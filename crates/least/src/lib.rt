@@ -1,22 +1,25 @@
 // Questions 8 and 9 at an office: the least triple that is Both, and the least person and folio with two deeds.
-ghost use Rattle.std.specs.Prelude.{◌≡◌, true, false, ◌&&◌, not, ◌<◌, length, [], ◌∷◌};
-ghost use Rattle.sheet.specs.Limits.{most_edges};
+ghost use Rattle.std.specs.Prelude.{◌≡◌, true, false, ◌&&◌, not, ◌<◌, ◌≤◌, length, [], ◌∷◌};
+ghost use Rattle.tables.specs.Count.{number_of};
+ghost use Rattle.sheet.specs.Limits.{max_nodes, most_edges};
 ghost use Rattle.sheet.specs.Refusals.{◌is◌};
 ghost use Rattle.sheet.specs.Rows.{node_at};
-ghost use Rattle.sheet.specs.Accepted.{NodesFormed};
+ghost use Rattle.sheet.specs.Accepted.{NodesFormed, WellFormed};
 ghost use Rattle.sheet.specs.Found.{FirstFound};
-ghost use Rattle.sheet.specs.Seats.{seen_from};
-ghost use Rattle.bits.specs.Sets.{set_words};
-ghost use Rattle.walk.specs.Arcs.{Ready, Arranged};
+ghost use Rattle.sheet.specs.Seats.{Seated, seen_from};
+ghost use Rattle.walk.specs.Arcs.{Arranged};
 ghost use Rattle.meaning.specs.Questions.{LeastTripleIs, LeastHolderIs};
 ghost use Rattle.question.specs.Checked.{AtSeat};
 ghost use Rattle.reach.specs.Finds.{Finds};
-ghost use Rattle.least.specs.Least.{Prepared, deed_in, deed_of, DeedStarts, RowsByDeed, repeated, common, FirstRow, PairRows, Hits};
+ghost use Rattle.least.specs.Least.{Prepared, starting, DeedStarts, RowsByDeed, common, deed_in, repeated, FirstRow, PairRows, Hits};
 
 use question::Question;
 use reach::FoundWords;
-use sheet::{BAN, DEED, FOLIO, GRANT, Header, PERSON, Place, Seat};
+use sheet::{BAN, DEED, FOLIO, GRANT, Header, Node, PERSON, Place, Seat};
 use walk::Walk;
+
+// One number for each node row.
+const ROWS: usize = sheet::MAX_NODES as usize;
 
 // What a search found: the numbers of a person, a deed and a folio; a pair leaves the deed 0.
 #[derive(Drop)]
@@ -25,6 +28,51 @@ struct Hit {
     person: u32,
     deed: u32,
     folio: u32,
+}
+
+// 1 at a deed row of the number that is marked by v, 0 at any other row.
+fn start_number(r: Node, v: u32, number: u32) -> u32
+    ensures { result ≡ number_of (starting r v number) }
+{
+    if (r.class == DEED) & ((r.number == number) & (v != 0)) {
+        return 1;
+    }
+    0
+}
+
+// 1 at the deed rows of a number that are marked in d, 0 at every other row.
+fn deed_starts(sheet: &[u32], h: Header, d: [u32; ROWS], number: u32) -> [u32; ROWS]
+    requires { NodesFormed sheet.now h × (length d ≡ max_nodes) }
+    ensures { DeedStarts sheet.now h.nodes d number result }
+{
+    let mut starts = [0u32; ROWS];
+    let n = h.nodes;
+    let mut i: u32 = 0;
+    while i < n {
+        let at = i as usize;
+        let r = sheet::node_at(sheet, at);
+        starts[at] = start_number(r, d[at], number);
+        i += 1;
+    }
+    starts
+}
+
+// For each row, whether a deed row of the number that is marked in d leads to it: 0 no, any other yes.
+fn rows_by_deed(
+    sheet: &[u32],
+    edges: &[u32],
+    h: Header,
+    w: Walk,
+    index: &[u32],
+    d: [u32; ROWS],
+    number: u32,
+) -> [u32; ROWS]
+    requires { WellFormed sheet.now edges.now h × Seated w.seat × Arranged sheet.now edges.now h w index.now × (length d ≡ max_nodes) }
+    ensures { RowsByDeed sheet.now edges.now h w d number result }
+{
+    let mut rows = deed_starts(sheet, h, d, number);
+    walk::run(sheet, edges, h, w, index, &mut rows);
+    rows
 }
 
 // Whether a node row is of a type.
@@ -43,106 +91,58 @@ fn number_at(sheet: &[u32], h: Header, i: u32) -> u32
     sheet::node_at(sheet, i as usize).number
 }
 
-// Whether a row is a deed's that the set has.
-fn is_deed_in(sheet: &[u32], h: Header, rows: &[u64], x: u32) -> bool
-    requires { NodesFormed sheet.now h × (length rows.now ≡ set_words) × (x < h.nodes) }
-    ensures { result ≡ deed_in sheet.now rows.now x }
+// Whether a row is a deed's and has a number in d.
+fn is_deed_in(sheet: &[u32], h: Header, d: &[u32], x: u32) -> bool
+    requires { NodesFormed sheet.now h × (h.nodes ≤ length d.now) × (x < h.nodes) }
+    ensures { result ≡ deed_in sheet.now d.now x }
 {
-    if !bits::is_in(rows, x) {
-        return false;
-    }
-    is_class(sheet, h, x, DEED)
+    let at = x as usize;
+    let r = sheet::node_at(sheet, at);
+    (r.class == DEED) & (d[at] != 0)
 }
 
-// Whether a row is a deed's of the number that the set has.
-fn is_deed_of(sheet: &[u32], h: Header, rows: &[u64], number: u32, x: u32) -> bool
-    requires { NodesFormed sheet.now h × (length rows.now ≡ set_words) × (x < h.nodes) }
-    ensures { result ≡ deed_of sheet.now rows.now number x }
-{
-    if !is_deed_in(sheet, h, rows, x) {
-        return false;
-    }
-    number_at(sheet, h, x) == number
-}
-
-// The deed rows of a number that the set has.
-fn deed_starts(sheet: &[u32], h: Header, rows: &[u64], number: u32) -> [u64; bits::WORDS]
-    requires { NodesFormed sheet.now h × (length rows.now ≡ set_words) }
-    ensures { DeedStarts sheet.now h.nodes rows.now number result }
-{
-    let mut starts = bits::no_rows();
-    let n = h.nodes;
-    let mut i: u32 = 0;
-    while i < n {
-        let good = is_deed_of(sheet, h, rows, number, i);
-        reach::put_row(&mut starts, i, good);
-        i += 1;
-    }
-    starts
-}
-
-// The rows that a deed row of the number that the set has leads to.
-fn rows_by_deed(
-    sheet: &[u32],
-    edges: &[u32],
-    h: Header,
-    w: Walk,
-    index: &[u16],
-    rows: &[u64],
-    number: u32,
-) -> [u64; bits::WORDS]
-    requires { Ready sheet.now edges.now h w × Arranged sheet.now edges.now h w index.now × (length rows.now ≡ set_words) }
-    ensures { RowsByDeed sheet.now edges.now h w rows.now number result }
-{
-    walk::reach(
-        sheet,
-        edges,
-        h,
-        w,
-        index,
-        deed_starts(sheet, h, rows, number),
-    )
-}
-
-// Whether the row before is a deed's of the same number that the set has.
-fn is_repeated(sheet: &[u32], h: Header, rows: &[u64], x: u32) -> bool
-    requires { NodesFormed sheet.now h × (length rows.now ≡ set_words) × (x < h.nodes) }
-    ensures { result ≡ repeated sheet.now rows.now x }
+// Whether the row before is a deed's of the same number that has a number in d.
+fn is_repeated(sheet: &[u32], h: Header, d: &[u32], x: u32) -> bool
+    requires { NodesFormed sheet.now h × (h.nodes ≤ length d.now) × (x < h.nodes) }
+    ensures { result ≡ repeated sheet.now d.now x }
 {
     if x == 0 {
         return false;
     }
-    is_deed_of(sheet, h, rows, number_at(sheet, h, x), x - 1)
-}
-
-// Whether a row is a deed's that the set has, and does not repeat the row before: the deed's number decides, so that a sheet of many variants costs no more turns.
-fn is_new_deed(sheet: &[u32], h: Header, rows: &[u64], x: u32) -> bool
-    requires { NodesFormed sheet.now h × (length rows.now ≡ set_words) × (x < h.nodes) }
-    ensures { result ≡ (deed_in sheet.now rows.now x && not (repeated sheet.now rows.now x)) }
-{
-    if !is_deed_in(sheet, h, rows, x) {
+    let y = x - 1;
+    if !is_deed_in(sheet, h, d, y) {
         return false;
     }
-    !is_repeated(sheet, h, rows, x)
+    number_at(sheet, h, y) == number_at(sheet, h, x)
 }
 
-// Whether a row is a folio's that both sets have.
-fn is_common(sheet: &[u32], h: Header, one: &[u64], two: &[u64], f: u32) -> bool
-    requires { NodesFormed sheet.now h × (length one.now ≡ set_words) × (length two.now ≡ set_words) × (f < h.nodes) }
+// Whether a row is a deed's that has a number in d, and does not repeat the row before: the deed's number decides, so that a sheet of many variants costs no more turns.
+fn is_new_deed(sheet: &[u32], h: Header, d: &[u32], x: u32) -> bool
+    requires { NodesFormed sheet.now h × (h.nodes ≤ length d.now) × (x < h.nodes) }
+    ensures { result ≡ (deed_in sheet.now d.now x && not (repeated sheet.now d.now x)) }
+{
+    if !is_deed_in(sheet, h, d, x) {
+        return false;
+    }
+    !is_repeated(sheet, h, d, x)
+}
+
+// Whether a row is a folio's and has a number in both.
+fn is_common(sheet: &[u32], h: Header, one: &[u32], two: &[u32], f: u32) -> bool
+    requires { NodesFormed sheet.now h × (h.nodes ≤ length one.now) × (h.nodes ≤ length two.now) × (f < h.nodes) }
     ensures { result ≡ common sheet.now one.now two.now f }
 {
-    if !bits::is_in(one, f) {
+    let at = f as usize;
+    if one[at] == 0 {
         return false;
     }
-    if !bits::is_in(two, f) {
-        return false;
-    }
-    is_class(sheet, h, f, FOLIO)
+    let r = sheet::node_at(sheet, at);
+    (two[at] != 0) & (r.class == FOLIO)
 }
 
-// The place of the first folio row that both sets have.
-fn first_common(sheet: &[u32], h: Header, one: &[u64], two: &[u64]) -> Place
-    requires { NodesFormed sheet.now h × (length one.now ≡ set_words) × (length two.now ≡ set_words) }
+// The place of the first folio row that has a number in both.
+fn first_common(sheet: &[u32], h: Header, one: &[u32], two: &[u32]) -> Place
+    requires { NodesFormed sheet.now h × (h.nodes ≤ length one.now) × (h.nodes ≤ length two.now) }
     ensures { FirstFound (common sheet.now one.now two.now) h.nodes result }
 {
     let n = h.nodes;
@@ -169,10 +169,10 @@ fn pair_folio(
     h: Header,
     q: Question,
     w: Walk,
-    index: &[u16],
+    index: &[u32],
     i: u32,
 ) -> Place
-    requires { Prepared sheet.now edges.now h w.seat 3 w index.now × (i < h.nodes) }
+    requires { WellFormed sheet.now edges.now h × Prepared sheet.now edges.now h w.seat 3 w index.now × (i < h.nodes) }
     ensures { FirstRow (PairRows sheet.now w.seat q.deed q.other i) h.nodes result }
 {
     if !is_class(sheet, h, i, PERSON) {
@@ -182,8 +182,8 @@ fn pair_folio(
         };
     }
     let d = reach::person_reach(sheet, edges, h, w, index, i);
-    let one = rows_by_deed(sheet, edges, h, w, index, &d, q.deed);
-    let two = rows_by_deed(sheet, edges, h, w, index, &d, q.other);
+    let one = rows_by_deed(sheet, edges, h, w, index, d, q.deed);
+    let two = rows_by_deed(sheet, edges, h, w, index, d, q.other);
     first_common(sheet, h, &one, &two)
 }
 
@@ -213,8 +213,8 @@ fn no_hit() -> Hit
 }
 
 // The least pair in row order, which is that of the numbers.
-fn first_pair(sheet: &[u32], edges: &[u32], h: Header, q: Question, w: Walk, index: &[u16]) -> Hit
-    requires { Prepared sheet.now edges.now h w.seat 3 w index.now }
+fn first_pair(sheet: &[u32], edges: &[u32], h: Header, q: Question, w: Walk, index: &[u32]) -> Hit
+    requires { WellFormed sheet.now edges.now h × Prepared sheet.now edges.now h w.seat 3 w index.now }
     ensures { Hits (LeastHolderIs (seen_from sheet.now w.seat) q.deed q.other) (result.person ∷ result.folio ∷ []) result.found }
 {
     let n = h.nodes;
@@ -265,11 +265,11 @@ fn first_both(
     edges: &[u32],
     h: Header,
     grants: Walk,
-    grantindex: &[u16],
+    grantindex: &[u32],
     bans: Walk,
-    banindex: &[u16],
+    banindex: &[u32],
 ) -> Hit
-    requires { Prepared sheet.now edges.now h grants.seat 3 grants grantindex.now × Prepared sheet.now edges.now h grants.seat 4 bans banindex.now }
+    requires { WellFormed sheet.now edges.now h × Prepared sheet.now edges.now h grants.seat 3 grants grantindex.now × Prepared sheet.now edges.now h grants.seat 4 bans banindex.now }
     ensures { Hits (LeastTripleIs (seen_from sheet.now grants.seat)) (result.person ∷ result.deed ∷ result.folio ∷ []) result.found }
 {
     let n = h.nodes;
@@ -285,8 +285,8 @@ fn first_both(
                 continue;
             }
             let m = number_at(sheet, h, x);
-            let one = rows_by_deed(sheet, edges, h, grants, grantindex, &d, m);
-            let two = rows_by_deed(sheet, edges, h, bans, banindex, &e, m);
+            let one = rows_by_deed(sheet, edges, h, grants, grantindex, d, m);
+            let two = rows_by_deed(sheet, edges, h, bans, banindex, e, m);
             for f in 0..n {
                 if is_common(sheet, h, &one, &two, f) {
                     hit = hit_at(sheet, h, i, m, f);

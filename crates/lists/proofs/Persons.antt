@@ -1,21 +1,22 @@
 -- Questions 5 and 6: the persons from whose rows the walk leads to a category's or a folio's row are those in the category, or those with a grant path.
 -- Assumes nothing.
-use Prim.Native.Nat.{ℕ, ◌<◌}
+use Prim.Native.Nat.{ℕ, ◌+◌, ◌<◌}
 use native.Mathlib.Omega.{arith}
 use mathlib.Core.Path.{◌≡◌, refl, sym, ap, subst, ◌∙◌}
-use mathlib.Core.Bool.{Bool, true, false, true≢false}
+use mathlib.Core.Bool.{Bool, true, false}
 use mathlib.Core.List.{List}
+use mathlib.Core.Logic.{◌⊎◌, inl, inr, ⊎_elim}
+use lib.ListN.{length, get_or, set}
+use lib.Seq.{get_or-set_same, get_or-set_other}
 use Rattle.tables.specs.Key.{identity}
-use Rattle.sheet.specs.Kinds.{person_type}
 use Rattle.sheet.specs.declared.Header.{Header}
-use Rattle.sheet.specs.declared.Node.{Node}
 use Rattle.sheet.specs.declared.Place.{Place}
 use Rattle.sheet.specs.declared.Seat.{Seat}
-use Rattle.sheet.specs.Rows.{header_of, node_at, node_key_at}
+use Rattle.sheet.specs.Rows.{header_of, node_key_at}
 use Rattle.sheet.specs.Accepted.{WellFormed}
 use Rattle.sheet.specs.Seats.{seen_from}
 use Rattle.sheet.proofs.Naming.{ends-seen}
-use Rattle.bits.specs.Sets.{in_set}
+use Rattle.paths.proofs.Rounds.{same-number-or}
 use Rattle.meaning.specs.Paths.{grant, person, category, folio, HasPath}
 use Rattle.meaning.specs.Forms.{Rising}
 use Rattle.meaning.specs.Questions.{InCategory, PersonsInCategoryAre, PersonsWithGrantAre}
@@ -29,30 +30,26 @@ use Rattle.sheet.proofs.Forming.{words_of}
 use Rattle.question.proofs.Known.{found-class}
 use Rattle.reach.specs.declared.FoundWords.{FoundWords}
 use Rattle.reach.specs.Finds.{Finds}
-use Rattle.reach.specs.Reaching.{Tells, LeadsTo, ReachedFrom}
-use Rattle.lists.specs.Picked.{PersonLeads, PersonReaches, PersonsReach, wanted, PickedNumber}
+use Rattle.reach.specs.Reaching.{Tells, LeadsTo}
+use Rattle.lists.specs.Picked.{PersonLeads, PersonsReach, wanted, PickedNumber}
 use Rattle.reach.proofs.Collecting.{rising-map, finds-map}
 use Rattle.reach.proofs.Leading.{plain_row, category-of, category-leads, folio-of, folio-leads}
+use Rattle.reach.proofs.Marking.{some_number, number-some}
 use Rattle.lists.proofs.Picking.{known_by}
 use Rattle.reach.proofs.Rows.{SeenRow, seen-row}
 
--- ---- what the test of a row tells
+-- one more row's number tells
+pub tells_more : (P C : ℕ → Type 0) (m : List ℕ) (i v : ℕ) → i < length m → ((j : ℕ) → j < i → C j → Tells (get_or m j 0) (P j)) → (C i → Tells v (P i)) → (j : ℕ) → j < i + 1 → C j → Tells (get_or (set m i v) j 0) (P j)
+tells_more P C m i v l h t j b c = ⊎_elim here before (same-number-or j i)
+  where
+    here : j ≡ i → Tells (get_or (set m i v) j 0) (P j)
+    here e = rw (e, get_or-set_same m i v 0 l) (t (subst C e c))
 
-module _ (s t : List ℕ) (h : Header) (w : Walk) (to from : ℕ) (r : Node) (e : r ≡ node_at s from) where
-  -- a row that is no person's
-  pub no-person-reaches : (r.class ≡ person_type → ⊥) → Tells false (PersonReaches s t h w to from)
-  no-person-reaches n = record { yes = λ q. absurd (true≢false (sym q)); no = λ q p. n (ap (λ (x : Node). x.class) e ∙ p.class) }
+    before : (j ≡ i → ⊥) → Tells (get_or (set m i v) j 0) (P j)
+    before n = rw (get_or-set_other m i j v 0 n) (h j (omega arith) c)
 
-  -- a person's, by what is reached from it
-  pub person-reaches-by : r.class ≡ person_type → (rows : List ℕ) → ReachedFrom s t h w from rows → (b : Bool) → b ≡ in_set rows to → Tells b (PersonReaches s t h w to from)
-  person-reaches-by c rows y b q =
-      record {
-        yes = λ z. record { class = ap (λ (x : Node). x.class) (sym e) ∙ c; leads = (y.each to).yes (sym q ∙ z) };
-        no = λ z p. (y.each to).no (sym q ∙ z) p.leads;
-      }
-
-module _ (s t : List ℕ) (h : Header) (w : Walk) (to : ℕ) (rows : List ℕ) (r : PersonsReach s t h w to rows) (office : ℕ) where
-  led : (x : ℕ) → PickedNumber s h.nodes office 1 true rows x → PersonLeads s t h office w to x
+module _ (s t : List ℕ) (h : Header) (w : Walk) (to : ℕ) (m : List ℕ) (r : PersonsReach s t h w to m) (office : ℕ) where
+  led : (x : ℕ) → PickedNumber s h.nodes office 1 true m x → PersonLeads s t h office w to x
   unfolding wanted
   led x p =
       record {
@@ -61,21 +58,21 @@ module _ (s t : List ℕ) (h : Header) (w : Walk) (to : ℕ) (rows : List ℕ) (
         class = p.picked.is-class;
         bears = p.picked.bears;
         numbered = p.numbered;
-        leads = (r.sound p.row p.picked.by).1.leads;
+        leads = (r.each p.row p.inside p.picked.is-class).yes (some_number _ p.picked.by);
       }
 
-  picked : (x : ℕ) → PersonLeads s t h office w to x → PickedNumber s h.nodes office 1 true rows x
+  picked : (x : ℕ) → PersonLeads s t h office w to x → PickedNumber s h.nodes office 1 true m x
   unfolding wanted
   picked x p =
       record {
         row = p.row;
         inside = p.inside;
-        picked = record { is-class = p.class; bears = p.bears; by = r.whole p.row p.inside (record { class = p.class; leads = p.leads }) };
+        picked = record { is-class = p.class; bears = p.bears; by = number-some _ (λ z. (r.each p.row p.inside p.class).no z p.leads) };
         numbered = p.numbered;
       }
 
-  -- the rows that were picked by the set are those that the walk leads from
-  pub led-found : {list : List ℕ} {w' : FoundWords} → Finds (Rising (PickedNumber s h.nodes office 1 true rows)) list w' → Finds (Rising (PersonLeads s t h office w to)) list w'
+  -- the rows that were picked by the numbers are those that the walk leads from
+  pub led-found : {list : List ℕ} {w' : FoundWords} → Finds (Rising (PickedNumber s h.nodes office 1 true m)) list w' → Finds (Rising (PersonLeads s t h office w to)) list w'
   led-found x = finds-map (λ ws. rising-map led picked) (λ ws. rising-map picked led) x
 
 -- no known number is 0

@@ -6,6 +6,7 @@ use mathlib.Core.Path.{◌≡◌, refl, sym, ap, subst, ◌∙◌}
 use mathlib.Core.Bool.{Bool, true, false, not, ◌&&◌, true≢false}
 use mathlib.Core.List.{List}
 use lib.Dec.{eqb}
+use lib.ListN.{get_or}
 use borrow.Author.Tests.{eqb-true, eq-eqb}
 use Rattle.tables.specs.Count.{some_row}
 use Rattle.tables.specs.Marks.{marked}
@@ -15,7 +16,6 @@ use Rattle.sheet.specs.declared.Place.{Place}
 use Rattle.sheet.specs.declared.Seat.{Seat}
 use Rattle.sheet.specs.Refusals.{◌when◌otherwise◌, ◌orElse◌}
 use Rattle.sheet.specs.Rows.{header_of, node_at}
-use Rattle.bits.specs.Sets.{in_set}
 use Rattle.paths.proofs.Tests.{and_left, and_right, both}
 use Rattle.meaning.specs.Forms.{Rising}
 use Rattle.question.specs.declared.Question.{Question}
@@ -26,12 +26,12 @@ use Rattle.reach.proofs.Collecting.{Collected, collected-all}
 
 -- ---- the test of a row
 
-module _ (s : List ℕ) (office class : ℕ) (reached : Bool) (rows : List ℕ) (i : ℕ) (r : Node) (b : Bool) (e : r ≡ node_at s i)
-    (t : b ≡ (eqb r.class class && (marked r.offices office && wanted reached (in_set rows i)))) where
-  own : b ≡ (eqb (node_at s i).class class && (marked (node_at s i).offices office && wanted reached (in_set rows i)))
+module _ (s : List ℕ) (office class : ℕ) (some : Bool) (d : List ℕ) (i : ℕ) (r : Node) (b : Bool) (e : r ≡ node_at s i)
+    (t : b ≡ (eqb r.class class && (marked r.offices office && wanted some (get_or d i 0)))) where
+  own : b ≡ (eqb (node_at s i).class class && (marked (node_at s i).offices office && wanted some (get_or d i 0)))
   own = rw (← e) t
 
-  pub picked-yes : b ≡ true → Picked s office class reached rows i
+  pub picked-yes : b ≡ true → Picked s office class some d i
   picked-yes q =
       let x = sym own ∙ q in
       let y = and_right (eqb (node_at s i).class class) _ x in
@@ -41,14 +41,14 @@ module _ (s : List ℕ) (office class : ℕ) (reached : Bool) (rows : List ℕ) 
         by = and_right (marked (node_at s i).offices office) _ y;
       }
 
-  pub picked-no : b ≡ false → Picked s office class reached rows i → ⊥
+  pub picked-no : b ≡ false → Picked s office class some d i → ⊥
   picked-no q p = true≢false (sym (both (eq-eqb _ class p.is-class) (both p.bears p.by)) ∙ sym own ∙ q)
 
 -- all rows passed: the list is that of the picked numbers
-pub picked_all : (s : List ℕ) (i n office class : ℕ) (reached : Bool) (rows out : List ℕ) → i ≤ n → n ≤ i → Collected (Picked s office class reached rows) (λ j. (node_at s j).number) i out → Rising (PickedNumber s n office class reached rows) out
-picked_all s i n office class reached rows out l m c =
+pub picked_all : (s : List ℕ) (i n office class : ℕ) (some : Bool) (d out : List ℕ) → i ≤ n → n ≤ i → Collected (Picked s office class some d) (λ j. (node_at s j).number) i out → Rising (PickedNumber s n office class some d) out
+picked_all s i n office class some d out l m c =
     let e : i ≡ n = omega arith in
-    collected-all _ _ n out _ (subst (λ (x : ℕ). Collected (Picked s office class reached rows) (λ j. (node_at s j).number) x out) e c) (λ x r. record { row = r.row; inside = r.inside; picked = r.counts; numbered = r.is }) (λ x r. record { row = r.row; inside = r.inside; counts = r.picked; is = r.numbered })
+    collected-all _ _ n out _ (subst (λ (x : ℕ). Collected (Picked s office class some d) (λ j. (node_at s j).number) x out) e c) (λ x r. record { row = r.row; inside = r.inside; picked = r.counts; numbered = r.is }) (λ x r. record { row = r.row; inside = r.inside; counts = r.picked; is = r.numbered })
 
 -- ---- what is refused
 

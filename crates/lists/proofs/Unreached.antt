@@ -1,11 +1,13 @@
 -- Question 7: the folios to which the grants' walk from all persons does not lead are those to which no person has a grant path by any deed.
 -- Assumes nothing.
-use Prim.Native.Nat.{ℕ, ◌<◌}
+use Prim.Native.Nat.{ℕ, suc, ◌<◌}
 use native.Mathlib.Omega.{arith}
 use mathlib.Core.Path.{◌≡◌, refl, ap, subst, ◌∙◌}
-use mathlib.Core.Bool.{true, false, not}
+use mathlib.Core.Bool.{true, false}
 use mathlib.Core.List.{List}
-use borrow.Author.Tests.{not-true}
+use mathlib.Core.Logic.{◌⊎◌, ⊎_elim}
+use lib.ListN.{get_or}
+use borrow.Author.Tests.{eqb-true, eq-eqb}
 use Rattle.tables.specs.Office.{View}
 use Rattle.sheet.specs.declared.Header.{Header}
 use Rattle.sheet.specs.declared.Seat.{Seat}
@@ -14,7 +16,7 @@ use Rattle.sheet.specs.Accepted.{WellFormed}
 use Rattle.sheet.specs.Named.{node_row}
 use Rattle.sheet.specs.Seats.{seen_from}
 use Rattle.sheet.proofs.Naming.{seen-node, ends-seen}
-use Rattle.bits.specs.Sets.{in_set}
+use Rattle.paths.proofs.Distances.{zero_or}
 use Rattle.meaning.specs.Paths.{grant, folio, HasPath}
 use Rattle.meaning.specs.Forms.{Rising}
 use Rattle.meaning.specs.Questions.{FoliosOutOfReachAre}
@@ -28,10 +30,9 @@ use Rattle.reach.specs.Finds.{Finds}
 use Rattle.lists.specs.Picked.{FromPersons, PersonsLead, wanted, PickedNumber}
 use Rattle.reach.proofs.Collecting.{rising-map, finds-map}
 use Rattle.reach.proofs.Leading.{plain_row, folio-of, folio-leads}
-use Rattle.reach.proofs.Marking.{tells-false}
 use Rattle.reach.proofs.Rows.{SeenRow, seen-row}
 
-module _ (s t : List ℕ) (h : Header) (seat : Seat) (at : AtSeat s t h seat) (rows : List ℕ) (r : PersonsLead s t h (walk_for seat grant 0) rows) where
+module _ (s t : List ℕ) (h : Header) (seat : Seat) (at : AtSeat s t h seat) (d : List ℕ) (r : PersonsLead s t h (walk_for seat grant 0) d) where
   abbrev f : WellFormed s t h
   f = at.formed
 
@@ -62,23 +63,28 @@ module _ (s t : List ℕ) (h : Header) (seat : Seat) (at : AtSeat s t h seat) (r
   abbrev Unreached : ℕ → Type 0
   Unreached n = (g.node (folio n) ≡ true) × ((p y : ℕ) → HasPath g grant p y n → ⊥)
 
-  into : (n : ℕ) → PickedNumber s h.nodes seat.office 4 false rows n → Unreached n
+  into : (n : ℕ) → PickedNumber s h.nodes seat.office 4 false d n → Unreached n
   unfolding wanted node_row
   into n x =
       let e = plain_row s t h f x.row 4 x.inside x.picked.is-class (λ z. omega arith) ∙ ap folio x.numbered in
       let l = subst (λ (y : Header). x.row < y.nodes) f.head x.inside in (
         seen-node s (words_of s t h f) seat.office (folio n) (record { row = x.row; inside = l; names = e; bears = x.picked.bears }),
-        λ p y q. (r.each x.row).no (not-true (in_set rows x.row) x.picked.by) (led x.row n p y x.inside e q),
+        λ p y q. (r.each x.row x.inside).no (eqb-true _ 0 x.picked.by) (led x.row n p y x.inside e q),
       )
 
-  out : (n : ℕ) → Unreached n → PickedNumber s h.nodes seat.office 4 false rows n
+  out : (n : ℕ) → Unreached n → PickedNumber s h.nodes seat.office 4 false d n
   unfolding wanted
   out n u =
       let m = seen-row s t h f seat.office 4 n 0 u.0 in
-      record { row = m.row; inside = m.inside; picked = record { is-class = cc m.names; bears = m.bears; by = ap not (tells-false _ _ (r.each m.row) (none m)) }; numbered = cc m.names }
+      record { row = m.row; inside = m.inside; picked = record { is-class = cc m.names; bears = m.bears; by = eq-eqb _ 0 (none m) }; numbered = cc m.names }
     where
-      none : (m : SeenRow s h seat.office 4 n 0) → FromPersons s t h w m.row → ⊥
-      none m l = let q = leads-path m.row n m.names l in u.1 q.0 q.1 q.2
+      none : (m : SeenRow s h seat.office 4 n 0) → get_or d m.row 0 ≡ 0
+      none m = ⊎_elim (λ z. z) some (zero_or (get_or d m.row 0))
+        where
+          some : (v : ℕ) × (get_or d m.row 0 ≡ suc v) → get_or d m.row 0 ≡ 0
+          some v =
+              let q = leads-path m.row n m.names ((r.each m.row m.inside).yes (λ z. let e = v.1 in omega arith)) in
+              absurd (u.1 q.0 q.1 q.2)
 
-  pub unreached-found : {list : List ℕ} {w' : FoundWords} → Finds (Rising (PickedNumber s h.nodes seat.office 4 false rows)) list w' → Finds (FoliosOutOfReachAre g) list w'
+  pub unreached-found : {list : List ℕ} {w' : FoundWords} → Finds (Rising (PickedNumber s h.nodes seat.office 4 false d)) list w' → Finds (FoliosOutOfReachAre g) list w'
   unreached-found x = finds-map (λ ws. rising-map into out) (λ ws. rising-map out into) x

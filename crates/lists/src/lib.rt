@@ -1,14 +1,14 @@
 // Questions 5 to 10: the persons in a category, the holders of a right, the folios out of reach, the least triple that is Both, the least pair, and the redundant rows.
 ghost use Rattle.std.specs.Prelude.{◌≡◌, true, false, ◌&&◌, not, ◌<◌, ◌≤◌, length, take, drop, ◌++◌};
+ghost use Rattle.tables.specs.Count.{number_of};
 ghost use Rattle.tables.specs.Marks.{marked};
-ghost use Rattle.sheet.specs.Kinds.{deed_type};
-ghost use Rattle.sheet.specs.Limits.{most_edges};
+ghost use Rattle.sheet.specs.Kinds.{person_type, deed_type};
+ghost use Rattle.sheet.specs.Limits.{max_nodes, most_edges};
 ghost use Rattle.sheet.specs.Refusals.{◌is◌, ◌when◌otherwise◌, none};
-ghost use Rattle.sheet.specs.Rows.{header_of};
+ghost use Rattle.sheet.specs.Rows.{header_of, node_at};
 ghost use Rattle.sheet.specs.Accepted.{NodesFormed, WellFormed};
 ghost use Rattle.sheet.specs.Seats.{Seated, seen_from};
-ghost use Rattle.bits.specs.Sets.{set_words};
-ghost use Rattle.walk.specs.Arcs.{walk_of, Ready, Arranged};
+ghost use Rattle.walk.specs.Arcs.{walk_of, Arranged};
 ghost use Rattle.meaning.specs.Forms.{Rising};
 ghost use Rattle.meaning.specs.Questions.{PersonsInCategoryAre, PersonsWithGrantAre, FoliosOutOfReachAre};
 ghost use Rattle.question.specs.Asked.{seat_for, known, bad_office, plain, after_sheet};
@@ -18,56 +18,60 @@ ghost use Rattle.reach.specs.Finds.{Finds};
 ghost use Rattle.lists.specs.Handed.{Handed};
 ghost use Rattle.lists.specs.Sought.{unknown_category, unknown_right, bad_pair, sought_fault, sought_is};
 ghost use Rattle.lists.specs.Promises.{ListsPersonsInCategory, ListsPersonsWithGrant, ListsFoliosOutOfReach, ShowsLeastTriple, ShowsLeastHolder, ListsRedundantEdges};
-ghost use Rattle.reach.specs.Reaching.{Tells};
-ghost use Rattle.lists.specs.Picked.{PersonLeads, PersonReaches, PersonsReach, PersonRows, PersonsLead, wanted, PickedNumber};
+ghost use Rattle.reach.specs.Reaching.{Tells, LeadsTo, Started};
+ghost use Rattle.lists.specs.Picked.{PersonLeads, PersonsReach, PersonsLead, wanted, PickedNumber};
 
 use question::{Answer, Question};
 use reach::FoundWords;
 use sheet::{CATEGORY, DEED, FOLIO, GRANT, Header, Node, PERSON, Seat};
 use walk::Walk;
 
+// One number for each node row.
+const ROWS: usize = sheet::MAX_NODES as usize;
+
 // The longest list, one word for each edge row.
 const LIST: usize = sheet::MAX_EDGES as usize;
 
-// Whether a row is wanted that was reached or was not, as it is asked for.
-fn is_wanted(reached: bool, has: bool) -> bool
-    ensures { result ≡ wanted reached has }
+// Whether a number is some, or none, as it is asked for.
+fn is_wanted(reached: bool, v: u32) -> bool
+    ensures { result ≡ wanted reached v }
 {
     if reached {
-        return has;
+        return v != 0;
     }
-    !has
+    v == 0
 }
 
-// Whether a node row has the type and the mark of the seat's office, and is wanted, reached or not as `has` says.
-fn is_picked(r: Node, seat: Seat, class: u32, reached: bool, has: bool) -> bool
+// Whether a node row has the type and the mark of the seat's office, and its number v is wanted.
+fn is_picked(r: Node, seat: Seat, class: u32, reached: bool, v: u32) -> bool
     requires { Seated seat }
-    ensures { result ≡ ((r.class is class) && (marked r.offices seat.office && wanted reached has)) }
+    ensures { result ≡ ((r.class is class) && (marked r.offices seat.office && wanted reached v)) }
 {
-    let good = is_wanted(reached, has);
+    let good = is_wanted(reached, v);
     let marked = sheet::bears(seat, r.offices);
     (r.class == class) & (marked & good)
 }
 
-// The numbers of the rows of a type that the seat's office has and that the set has, or has not, rising.
+// The numbers of the rows of a type that the seat's office has and whose number in d is some, or none, rising.
 fn numbers_of(
     sheet: &[u32],
     h: Header,
     seat: Seat,
     class: u32,
     reached: bool,
-    rows: &[u64],
+    d: [u32; ROWS],
     list: &mut [u32],
 ) -> FoundWords
-    requires { NodesFormed sheet.now h × Seated seat × (class ≡ deed_type → ⊥) × (length rows.now ≡ set_words) × (length list.old ≡ most_edges) }
-    ensures { Finds (Rising (PickedNumber sheet.now h.nodes seat.office class reached rows.now)) list.new result }
+    requires { NodesFormed sheet.now h × Seated seat × (class ≡ deed_type → ⊥) × (length d ≡ max_nodes) × (length list.old ≡ most_edges) }
+    ensures { Finds (Rising (PickedNumber sheet.now h.nodes seat.office class reached d)) list.new result }
 {
-    let nodes = h.nodes;
+    let rows = h.nodes;
     let mut n: u32 = 0;
     let mut i: u32 = 0;
-    while i < nodes {
-        let r = sheet::node_at(sheet, i as usize);
-        let good = is_picked(r, seat, class, reached, bits::is_in(rows, i));
+    while i < rows {
+        let at = i as usize;
+        let r = sheet::node_at(sheet, at);
+        let good = is_picked(r, seat, class, reached, d[at]);
         n = reach::put(list, n, good, r.number);
         i += 1;
     }
@@ -77,48 +81,49 @@ fn numbers_of(
     }
 }
 
-// Whether a row is a person's from which the walk leads to a row.
+// Whether the walk leads from a person's row to a row: 0 no, any other yes.
 fn person_reaches(
     sheet: &[u32],
     edges: &[u32],
     h: Header,
     w: Walk,
-    index: &[u16],
+    index: &[u32],
     from: u32,
     to: u32,
-) -> bool
-    requires { Ready sheet.now edges.now h w × Arranged sheet.now edges.now h w index.now × (from < h.nodes) × (to < h.nodes) }
-    ensures { Tells result (PersonReaches sheet.now edges.now h w to from) }
+) -> u32
+    requires { WellFormed sheet.now edges.now h × Seated w.seat × Arranged sheet.now edges.now h w index.now × (from < h.nodes) × (to < h.nodes) }
+    ensures { (node_at sheet.now from).class ≡ person_type → Tells result (LeadsTo sheet.now edges.now h w from to) }
 {
     let r = sheet::node_at(sheet, from as usize);
     if r.class != PERSON {
-        return false;
+        return 0;
     }
-    let reached = reach::person_reach(sheet, edges, h, w, index, from);
-    bits::is_in(&reached, to)
+    let d = reach::person_reach(sheet, edges, h, w, index, from);
+    let at = to as usize;
+    d[at]
 }
 
-// The persons' rows from which the walk leads to a row.
+// For each person's row, whether the walk leads from it to a row: 0 no, any other yes.
 fn persons_reaching(
     sheet: &[u32],
     edges: &[u32],
     h: Header,
     w: Walk,
-    index: &[u16],
+    index: &[u32],
     to: u32,
-) -> [u64; bits::WORDS]
-    requires { Ready sheet.now edges.now h w × Arranged sheet.now edges.now h w index.now × (to < h.nodes) }
+) -> [u32; ROWS]
+    requires { WellFormed sheet.now edges.now h × Seated w.seat × Arranged sheet.now edges.now h w index.now × (to < h.nodes) }
     ensures { PersonsReach sheet.now edges.now h w to result }
 {
-    let mut persons = bits::no_rows();
+    let mut m = [0u32; ROWS];
     let n = h.nodes;
     let mut i: u32 = 0;
     while i < n {
-        let good = person_reaches(sheet, edges, h, w, index, i, to);
-        reach::put_row(&mut persons, i, good);
+        let at = i as usize;
+        m[at] = person_reaches(sheet, edges, h, w, index, i, to);
         i += 1;
     }
-    persons
+    m
 }
 
 // The numbers of the persons of the seat's office from whose rows the grants' walk for a deed leads to a row, rising.
@@ -137,8 +142,8 @@ fn persons_to(
     let w = walk::walk_of(seat, GRANT, deed);
     let mut index = walk::blank_index();
     walk::arrange(sheet, edges, h, w, &mut index);
-    let persons = persons_reaching(sheet, edges, h, w, &index, to);
-    numbers_of(sheet, h, seat, PERSON, true, &persons, list)
+    let m = persons_reaching(sheet, edges, h, w, &index, to);
+    numbers_of(sheet, h, seat, PERSON, true, m, list)
 }
 
 // Question 5 from the seat: the persons in a category that its office knows.
@@ -173,30 +178,41 @@ fn persons_with_grant_at(
     persons_to(sheet, edges, h, seat, q.deed, to.row as u32, list)
 }
 
-// The persons' rows.
-fn person_starts(sheet: &[u32], h: Header) -> [u64; bits::WORDS]
-    requires { NodesFormed sheet.now h }
-    ensures { PersonRows sheet.now h.nodes result }
+// 1 at a person's row, 0 at any other.
+fn person_start(r: Node) -> u32
+    ensures { result ≡ number_of (r.class is person_type) }
 {
-    let mut starts = bits::no_rows();
+    if r.class == PERSON {
+        return 1;
+    }
+    0
+}
+
+// 1 at the persons' rows, 0 at every other row.
+fn person_starts(sheet: &[u32], h: Header) -> [u32; ROWS]
+    requires { NodesFormed sheet.now h }
+    ensures { Started (λ i. (node_at sheet.now i).class is person_type) h.nodes result }
+{
+    let mut starts = [0u32; ROWS];
     let n = h.nodes;
     let mut i: u32 = 0;
     while i < n {
-        let r = sheet::node_at(sheet, i as usize);
-        reach::put_row(&mut starts, i, r.class == PERSON);
+        let at = i as usize;
+        let r = sheet::node_at(sheet, at);
+        starts[at] = person_start(r);
         i += 1;
     }
     starts
 }
 
-// The rows to which the walk leads from some person's.
-fn persons_lead(sheet: &[u32], edges: &[u32], h: Header, w: Walk) -> [u64; bits::WORDS]
-    requires { Ready sheet.now edges.now h w }
+// For each row, whether the walk leads to it from some person's: 0 no, any other yes.
+fn persons_lead(sheet: &[u32], edges: &[u32], h: Header, w: Walk) -> [u32; ROWS]
+    requires { WellFormed sheet.now edges.now h × Seated w.seat }
     ensures { PersonsLead sheet.now edges.now h w result }
 {
-    let mut index = walk::blank_index();
-    walk::arrange(sheet, edges, h, w, &mut index);
-    walk::reach(sheet, edges, h, w, &index, person_starts(sheet, h))
+    let mut rows = person_starts(sheet, h);
+    walk::layers(sheet, edges, h, w, &mut rows);
+    rows
 }
 
 // Question 7 from the seat: the folios to which no person has a grant path by any deed.
@@ -211,8 +227,8 @@ fn folios_out_of_reach_at(
     ensures { Finds (FoliosOutOfReachAre (seen_from sheet.now seat)) list.new result }
 {
     let w = walk::walk_of(seat, GRANT, 0);
-    let reached = persons_lead(sheet, edges, h, w);
-    numbers_of(sheet, h, seat, FOLIO, false, &reached, list)
+    let d = persons_lead(sheet, edges, h, w);
+    numbers_of(sheet, h, seat, FOLIO, false, d, list)
 }
 
 // Whether the seat's office knows a type and number.

@@ -23,7 +23,7 @@ use Rattle.sheet.specs.Named.{node_row, edge_row, tables_of, held_at, seen_at}
 use Rattle.sheet.proofs.Fewer.{EdgesFrom, fewer-rows}
 use Rattle.sheet.proofs.Naming.{edges-up, marks-held, node-marked, edge-marked}
 use Rattle.sheet.proofs.Whole.{sheet-alike}
-use Rattle.paths.proofs.Tests.{same-number-or}
+use Rattle.paths.proofs.Rounds.{same-number-or}
 use Rattle.meaning.specs.Paths.{Side, HasPath}
 use Rattle.meaning.specs.Questions.{Redundant}
 use Rattle.meaning.specs.Removed.{IsRemoved, LacksAtMost}

@@ -2,7 +2,8 @@ pub mod Tests
 pub mod Ways
 pub mod Detours
 pub mod Distances
-pub mod Layering
+pub mod Rounds
 pub mod Trails
-pub mod Flooding
+pub mod Bounds
+pub mod Queues
 pub mod Mistakes

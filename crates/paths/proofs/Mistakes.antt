@@ -8,7 +8,7 @@ use mathlib.Core.Bool.{Bool, true, false, not, ◌&&◌}
 use mathlib.Core.List.{List, [], ◌∷◌}
 use lib.ListN.{length, get_or}
 use Rattle.paths.specs.Leads.{among, leads}
-use Rattle.paths.specs.Reached.{Reached, start, then, First, LeastBefore}
+use Rattle.paths.specs.Reached.{Reached, start, then, Layers, LeastNext}
 use Rattle.paths.specs.Best.{Trail, goes, Before, Best}
 use Rattle.paths.proofs.Trails.{before-both}
 
@@ -30,18 +30,29 @@ AtZero i = i ≡ 0
 abbrev AtTwo : ℕ → Type 0
 AtTwo i = i ≡ 2
 
-pub record OneMoreThanTheFewest (R : ℕ → ℕ → Type 0) (S : ℕ → Type 0) (n i : ℕ) : Type 0 where
-  pub reached : Reached R S n i
-  pub fewest : (m : ℕ) → Reached R S m i → n ≤ suc m
+pub record OneMoreThanTheFewest (R : ℕ → ℕ → Type 0) (S : ℕ → Type 0) (d : List ℕ) : Type 0 where
+  pub sound : (i n : ℕ) → get_or d i 0 ≡ suc n → Reached R S n i
+  pub least : (i n : ℕ) → Reached R S n i → (0 < get_or d i 0) × (get_or d i 0 ≤ suc (suc n))
 
--- "the path with fewest nodes": 2 is one step from 0, and would be first reached as by way of 1
-pub one-more-than-the-fewest : OneMoreThanTheFewest Up AtZero 2 2 × (First Up AtZero 2 2 → ⊥)
-one-more-than-the-fewest =
-    (record { reached = then {a = 1} {i = 2} (then {a = 0} {i = 1} (start refl) (omega arith)) (omega arith); fewest = λ m w. let h = far w in omega arith }, λ f. let h = f.fewest 1 (then {a = 0} {i = 2} (start refl) (omega arith)) in omega arith)
+-- "the path with fewest nodes": 2 is one step from 0, and would be numbered as by way of 1
+pub one-more-than-the-fewest : OneMoreThanTheFewest Up AtZero (1 ∷ 2 ∷ 3 ∷ []) × (Layers Up AtZero (1 ∷ 2 ∷ 3 ∷ []) → ⊥)
+one-more-than-the-fewest = (record { sound = sound; least = least }, λ y. let h = y.least 2 1 (then {a = 0} (start refl) (omega arith)) in omega arith)
   where
-    far : {n i : ℕ} → Reached Up AtZero n i → i ≤ n + n
+    sound : (i n : ℕ) → get_or (1 ∷ 2 ∷ 3 ∷ []) i 0 ≡ suc n → Reached Up AtZero n i
+    sound zero n e = let z : 0 ≡ n = omega arith in rw (← z) (start refl)
+    sound (suc zero) n e = let z : 1 ≡ n = omega arith in rw (← z) (then {a = 0} {i = 1} (start refl) (omega arith))
+    sound (suc (suc zero)) n e = let z : 2 ≡ n = omega arith in rw (← z) (then {a = 1} {i = 2} (then {a = 0} {i = 1} (start refl) (omega arith)) (omega arith))
+    sound (suc (suc (suc i))) n e = absurd (omega arith)
+
+    far : {n i : ℕ} → Reached Up AtZero n i → (i < 3) × (i ≤ n + n)
     far (start e) = omega arith
-    far (then r st) = omega (arith, far r)
+    far (then r st) = omega arith
+
+    least : (i n : ℕ) → Reached Up AtZero n i → (0 < get_or (1 ∷ 2 ∷ 3 ∷ []) i 0) × (get_or (1 ∷ 2 ∷ 3 ∷ []) i 0 ≤ suc (suc n))
+    least zero n r = omega arith
+    least (suc zero) n r = omega arith
+    least (suc (suc zero)) n r = let h = far r in omega arith
+    least (suc (suc (suc i))) n r = let h = far r in absurd (omega arith)
 
 pub record OneNodeMore (R : ℕ → ℕ → Type 0) (T : ℕ → Type 0) (a : ℕ) (l : List ℕ) : Type 0 where
   pub leads : Trail R T a l
@@ -81,22 +92,11 @@ pub data LaterIsBefore : List ℕ → List ℕ → Type 0 where
 pub later-is-before : LaterIsBefore (22 ∷ []) (21 ∷ []) × (Before (22 ∷ []) (21 ∷ []) → ⊥)
 later-is-before = (less {a = 22} {b = 21} (omega arith), λ h. let e = ap (λ l. get_or l 0 0) (before-both h (Before.less {a = 21} {b = 22} (omega arith))) in omega arith)
 
--- from 0 to 1 and 2, from either to 3, and from 1 to 2
-abbrev Near : ℕ → ℕ → Type 0
-Near a b = (a < b) × (b < 4) × (b < a + 3)
+pub record GreatestNext (limit : ℕ) (R : ℕ → ℕ → Type 0) (d : List ℕ) (a w r : ℕ) : Type 0 where
+  pub most : r ≤ limit
+  pub found : r < limit → (get_or d r 0 ≡ w) × R a r
+  pub low : (b : ℕ) → R a b → get_or d b 0 ≡ w → b ≤ r
 
-pub record GreatestBefore (R : ℕ → ℕ → Type 0) (S : ℕ → Type 0) (n i b : ℕ) : Type 0 where
-  pub first : First R S n b
-  pub leads : R b i
-  pub low : (a : ℕ) → First R S n a → R a i → a ≤ b
-
--- "the first in dictionary order": where 1 and 2 are as near to 3, the note is 1
-pub greatest-before : GreatestBefore Near AtZero 1 3 2 × (LeastBefore Near AtZero 1 3 2 → ⊥)
-greatest-before = (record { first = one-step 2 (omega arith) (omega arith); leads = omega arith; low = λ a f r. omega arith }, λ y. let h = y.low 1 (one-step 1 (omega arith) (omega arith)) (omega arith) in omega arith)
-  where
-    one-step : (i : ℕ) → 0 < i → i < 3 → First Near AtZero 1 i
-    one-step i p l = record { reached = then {a = 0} {i = i} (start refl) (omega arith); fewest = λ m w. some w }
-      where
-        some : {m : ℕ} → Reached Near AtZero m i → 1 ≤ m
-        some (start e) = absurd (omega arith)
-        some (then w st) = omega arith
+-- "the first in dictionary order": where 1 and 2 are as near, the next is 1
+pub greatest-next : GreatestNext 3 Up (2 ∷ 1 ∷ 1 ∷ []) 0 1 2 × (LeastNext 3 Up (2 ∷ 1 ∷ 1 ∷ []) 0 1 2 → ⊥)
+greatest-next = (record { most = omega arith; found = λ h. (refl, omega arith); low = λ b u e. omega arith }, λ y. let h = y.low 1 (omega arith) refl in omega arith)

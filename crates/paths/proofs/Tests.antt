@@ -1,10 +1,8 @@
--- What a test that is two tests says of each, and what a number is.
+-- What a test that is two tests says of each.
 -- Assumes nothing.
 use mathlib.Core.Path.{◌≡◌, refl}
 use mathlib.Core.Bool.{Bool, true, false, not, ◌&&◌, ◌||◌, false≢true}
 use mathlib.Core.Logic.{◌⊎◌, inl, inr}
-use Prim.Native.Nat.{ℕ, zero, suc}
-use native.Mathlib.Decide.{ℕ_discrete}
 
 pub and_left : (a b : Bool) → (a && b) ≡ true → a ≡ true
 and_left true b e = refl
@@ -40,11 +38,3 @@ x implies y = not x || y
 pub implied : (x y : Bool) → (x implies y) ≡ true → x ≡ true → y ≡ true
 implied true y e h = e
 implied false y e h = absurd (false≢true h)
-
--- a number is 0 or a successor
-pub zero_or : (n : ℕ) → (n ≡ 0) ⊎ ((m : ℕ) × (n ≡ suc m))
-zero_or zero = inl refl
-zero_or (suc m) = inr (m, refl)
-
-pub same-number-or : (i j : ℕ) → (i ≡ j) ⊎ (i ≡ j → ⊥)
-same-number-or i j = elim (ℕ_discrete i j) [ yes p ↦ inl p | no q ↦ inr q ]

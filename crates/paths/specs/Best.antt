@@ -1,6 +1,6 @@
 -- Trails as lists of nodes: the one with the fewest, and among those the first in dictionary order.
 -- Assumes nothing.
-use Rattle.std.specs.Prelude.{ℕ, zero, suc, ◌≤◌, ◌<◌, ◌≡◌, List, [], ◌∷◌, length, get_or}
+use Rattle.std.specs.Prelude.{ℕ, ◌≤◌, ◌<◌, ◌≡◌, List, [], ◌∷◌, ◌++◌, length, drop}
 
 -- the list starts at a, follows R, and ends at a node of T
 pub data Trail (R : ℕ → ℕ → Type 0) (T : ℕ → Type 0) : ℕ → List ℕ → Type 0 where
@@ -19,12 +19,9 @@ pub record Best (R : ℕ → ℕ → Type 0) (T : ℕ → Type 0) (a : ℕ) (l :
   pub short : (l' : List ℕ) → Trail R T a l' → length l ≤ length l'
   pub first : (l' : List ℕ) → Trail R T a l' → length l' ≡ length l → Before l l'
 
--- the rows from a on by n notes
-unfoldable pub by_notes : List ℕ → ℕ → ℕ → List ℕ
-by_notes note zero a = a ∷ []
-by_notes note (suc n) a = a ∷ by_notes note n (get_or note a 0)
-
--- the notes lead from a to the row `to` in n turns, and no sooner
-pub data NotesLead (note : List ℕ) (to : ℕ) : ℕ → ℕ → Type 0 where
-  there : {a : ℕ} → a ≡ to → NotesLead note to 0 a
-  onward : {n a : ℕ} → (a ≡ to → ⊥) → a < length note → NotesLead note to n (get_or note a 0) → NotesLead note to (suc n) a
+-- out is out₀ with the best trail from a written to its front, r nodes, and nothing else changed
+pub record Traced (R : ℕ → ℕ → Type 0) (T : ℕ → Type 0) (a : ℕ) (out₀ out : List ℕ) (r : ℕ) : Type 0 where
+  pub trail : List ℕ
+  pub best : Best R T a trail
+  pub size : length trail ≡ r
+  pub wrote : out ≡ trail ++ drop r out₀

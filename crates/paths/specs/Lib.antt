@@ -1,4 +1,3 @@
 pub mod Leads
 pub mod Reached
-pub mod Flood
 pub mod Best

@@ -1,6 +1,6 @@
 -- Steps by the rows of a table: a table is told by which rows count, and by the node that a row leaves and the one that it enters.
 -- Assumes nothing.
-use Rattle.std.specs.Prelude.{ℕ, suc, ◌<◌, ◌≤◌, ◌≡◌, Bool, true, false, List, ◌⊎◌, get_or}
+use Rattle.std.specs.Prelude.{ℕ, zero, suc, ◌+◌, ◌<◌, ◌≤◌, ◌≡◌, Bool, true, List, [], ◌∷◌, ◌⊎◌, length, get_or}
 
 -- one step from a to b, by a row below the limit
 pub record Via (on : ℕ → Bool) (near far : ℕ → ℕ) (limit a b : ℕ) : Type 0 where
@@ -15,62 +15,57 @@ pub data Reached (R : ℕ → ℕ → Type 0) (S : ℕ → Type 0) : ℕ → ℕ
   start : {i : ℕ} → S i → Reached R S 0 i
   then : {n a i : ℕ} → Reached R S n a → R a i → Reached R S (suc n) i
 
--- f has what is reached from a start, and nothing else
-pub record Closes (R : ℕ → ℕ → Type 0) (S : ℕ → Type 0) (f : ℕ → Bool) : Type 0 where
-  pub sound : (i : ℕ) → f i ≡ true → (n : ℕ) × Reached R S n i
-  pub all : (i n : ℕ) → Reached R S n i → f i ≡ true
+-- d numbers the nodes by distance: 0 for one that no start reaches, and else one more than the fewest steps
+pub record Layers (R : ℕ → ℕ → Type 0) (S : ℕ → Type 0) (d : List ℕ) : Type 0 where
+  pub sound : (i n : ℕ) → get_or d i 0 ≡ suc n → Reached R S n i
+  pub least : (i n : ℕ) → Reached R S n i → (0 < get_or d i 0) × (get_or d i 0 ≤ suc n)
 
--- what is in the set
-abbrev pub In : (ℕ → Bool) → ℕ → Type 0
-In f i = f i ≡ true
+-- the starts are the nodes that are numbered 1
+abbrev pub Starts : List ℕ → ℕ → Type 0
+Starts d i = get_or d i 0 ≡ 1
 
--- i is reached in n steps, and in no fewer
-pub record First (R : ℕ → ℕ → Type 0) (S : ℕ → Type 0) (n i : ℕ) : Type 0 where
-  pub reached : Reached R S n i
-  pub fewest : (m : ℕ) → Reached R S m i → n ≤ m
+-- d is d₀ after each step from a node numbered v has numbered its end v + 1, unless it had a number
+pub record Spread (R : ℕ → ℕ → Type 0) (v : ℕ) (d₀ d : List ℕ) : Type 0 where
+  pub kept : (i : ℕ) → 0 < get_or d₀ i 0 → get_or d i 0 ≡ get_or d₀ i 0
+  pub new : (i : ℕ) → get_or d₀ i 0 ≡ 0 → (get_or d i 0 ≡ 0) ⊎ ((get_or d i 0 ≡ suc v) × ((a : ℕ) × (get_or d₀ a 0 ≡ v) × R a i))
+  pub all : (a i : ℕ) → R a i → get_or d₀ a 0 ≡ v → 0 < get_or d i 0
 
--- b is the least of the rows first reached in n steps from which a step leads to i
-pub record LeastBefore (R : ℕ → ℕ → Type 0) (S : ℕ → Type 0) (n i b : ℕ) : Type 0 where
-  pub first : First R S n b
-  pub leads : R b i
-  pub low : (a : ℕ) → First R S n a → R a i → b ≤ a
+-- how many nodes have no number
+unfoldable pub zeros : List ℕ → ℕ
+zeros [] = 0
+zeros (zero ∷ l) = suc (zeros l)
+zeros (suc n ∷ l) = zeros l
 
--- a walk from the starts is done: what is seen, and for each row first reached in a step or more the note of the least row before it; none takes as many steps as there are rows
-pub record WalkDone (R : ℕ → ℕ → Type 0) (S : ℕ → Type 0) (limit : ℕ) (seen : ℕ → Bool) (note : List ℕ) : Type 0 where
-  pub first : (i : ℕ) → seen i ≡ true → (n : ℕ) × First R S n i
-  pub all : (i n : ℕ) → Reached R S n i → seen i ≡ true
-  pub nearest : (i n : ℕ) → First R S (suc n) i → LeastBefore R S n i (get_or note i 0)
-  pub few : (i n : ℕ) → i < limit → First R S n i → n < limit
+-- node i waits in the queue q, at a place from lo up to hi
+pub record Queued (q : List ℕ) (lo hi i : ℕ) : Type 0 where
+  pub place : ℕ
+  pub from : lo ≤ place
+  pub below : place < hi
+  pub is : get_or q place 0 ≡ i
 
--- at row i nothing has changed: whether it is seen, whether it is in the next layer, and its note
-pub record Kept (seen layer : ℕ → Bool) (note : List ℕ) (seen' layer' : ℕ → Bool) (note' : List ℕ) (i : ℕ) : Type 0 where
-  pub same_seen : seen' i ≡ seen i
-  pub same-layer : layer' i ≡ layer i
-  pub same-note : get_or note' i 0 ≡ get_or note i 0
+-- the nodes below the limit that are numbered v wait from lo up to hi, and the queue has room for every node that has no number
+pub record Waiting (limit v : ℕ) (d q : List ℕ) (lo hi : ℕ) : Type 0 where
+  pub all : (i : ℕ) → i < limit → get_or d i 0 ≡ v → Queued q lo hi i
+  pub inside : (k : ℕ) → lo ≤ k → k < hi → get_or q k 0 < limit
+  pub room : hi + zeros d ≤ length q
 
--- row i was not seen, and is the end of a step P; now it is seen, in the next layer, and its note is the row `at`
-pub record Came (P : ℕ → Type 0) (at : ℕ) (seen seen' layer' : ℕ → Bool) (note' : List ℕ) (i : ℕ) : Type 0 where
-  pub unseen : seen i ≡ false
-  pub ends : P i
-  pub is_seen : seen' i ≡ true
-  pub is-next : layer' i ≡ true
-  pub noted : get_or note' i 0 ≡ at
+-- steps from one node
+abbrev pub From : ℕ → (ℕ → ℕ → Type 0) → ℕ → ℕ → Type 0
+From at R a b = (a ≡ at) × R a b
 
--- the steps P from the row `at` were taken
-pub record StepsTaken (P : ℕ → Type 0) (at : ℕ) (seen layer : ℕ → Bool) (note : List ℕ) (seen' layer' : ℕ → Bool) (note' : List ℕ) : Type 0 where
-  pub each : (i : ℕ) → Kept seen layer note seen' layer' note' i ⊎ Came P at seen seen' layer' note' i
-  pub all : (i : ℕ) → P i → seen' i ≡ true
+-- the steps from the nodes numbered v were taken, and the nodes that got a number, and no others, came behind the n₀ that waited: now n wait
+pub record Round (R : ℕ → ℕ → Type 0) (v : ℕ) (d₀ q₀ : List ℕ) (n₀ : ℕ) (d q : List ℕ) (n : ℕ) : Type 0 where
+  pub spread : Spread R v d₀ d
+  pub long : length d ≡ length d₀
+  pub queue : length q ≡ length q₀
+  pub count : n + zeros d ≡ n₀ + zeros d₀
+  pub grows : n₀ ≤ n
+  pub front : (k : ℕ) → k < n₀ → get_or q k 0 ≡ get_or q₀ k 0
+  pub came : (i : ℕ) → get_or d₀ i 0 ≡ 0 → 0 < get_or d i 0 → Queued q n₀ n i
+  pub led : (k : ℕ) → n₀ ≤ k → k < n → (a : ℕ) × R a (get_or q k 0)
 
--- row i was not seen; now it is, in the next layer, and its note is the least row of the layer `now` from which a step leads to it
-pub record Fresh (R : ℕ → ℕ → Type 0) (now seen seen' layer' : ℕ → Bool) (note' : List ℕ) (i : ℕ) : Type 0 where
-  pub unseen : seen i ≡ false
-  pub is_seen : seen' i ≡ true
-  pub is-next : layer' i ≡ true
-  pub from : now (get_or note' i 0) ≡ true
-  pub leads : R (get_or note' i 0) i
-  pub low : (a : ℕ) → now a ≡ true → R a i → get_or note' i 0 ≤ a
-
--- every step from the layer `now` was taken, and the next layer has the rows that came
-pub record LayerDone (R : ℕ → ℕ → Type 0) (now seen : ℕ → Bool) (note : List ℕ) (seen' layer' : ℕ → Bool) (note' : List ℕ) : Type 0 where
-  pub each : (i : ℕ) → Kept seen (λ _. false) note seen' layer' note' i ⊎ Fresh R now seen seen' layer' note' i
-  pub all : (a i : ℕ) → now a ≡ true → R a i → seen' i ≡ true
+-- r is the least node that a step leads to from a and that is numbered w; no node stands at the limit
+pub record LeastNext (limit : ℕ) (R : ℕ → ℕ → Type 0) (d : List ℕ) (a w r : ℕ) : Type 0 where
+  pub most : r ≤ limit
+  pub found : r < limit → (get_or d r 0 ≡ w) × R a r
+  pub low : (b : ℕ) → R a b → get_or d b 0 ≡ w → r ≤ b

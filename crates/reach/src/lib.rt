@@ -1,11 +1,16 @@
-// What a walk reaches from a row, as a set of rows and in identities, and how what is found is collected in a list or a set.
-ghost use Rattle.std.specs.Prelude.{◌*◌, ◌<◌, ◌≤◌, length};
-ghost use Rattle.walk.specs.Arcs.{Ready, Arranged};
-ghost use Rattle.reach.specs.Finds.{Puts, PutsRow};
+// What a walk reaches from a row, as numbers and in identities, and how what is found is collected in a list.
+ghost use Rattle.std.specs.Prelude.{◌<◌, ◌≤◌, length};
+ghost use Rattle.sheet.specs.Accepted.{WellFormed};
+ghost use Rattle.sheet.specs.Seats.{Seated};
+ghost use Rattle.walk.specs.Arcs.{Arranged};
+ghost use Rattle.reach.specs.Finds.{Puts};
 ghost use Rattle.reach.specs.Reaching.{ReachedFrom};
 
 use sheet::Header;
 use walk::Walk;
+
+// One number for each node row.
+const ROWS: usize = sheet::MAX_NODES as usize;
 
 // What a question finds in a list: whether there is what it asks for, and how many words in front tell it; 0 where there is none.
 #[derive(Drop)]
@@ -27,28 +32,17 @@ pub fn put(list: &mut [u32], n: u32, good: bool, x: u32) -> u32
     n + 1
 }
 
-// Puts a row into a set, where it is wanted.
-pub fn put_row(rows: &mut [u64], i: u32, good: bool)
-    requires { i < 64 * length rows.old }
-    ensures { PutsRow good i rows.old rows.new }
-{
-    if !good {
-        return;
-    }
-    bits::put_in(rows, i);
-}
-
-// The rows that a walk leads to from a person's row.
+// A walk's numbers from a person's row.
 pub fn person_reach(
     sheet: &[u32],
     edges: &[u32],
     h: Header,
     w: Walk,
-    index: &[u16],
+    index: &[u32],
     from: u32,
-) -> [u64; bits::WORDS]
-    requires { Ready sheet.now edges.now h w × Arranged sheet.now edges.now h w index.now × (from < h.nodes) }
+) -> [u32; ROWS]
+    requires { WellFormed sheet.now edges.now h × Seated w.seat × Arranged sheet.now edges.now h w index.now × (from < h.nodes) }
     ensures { ReachedFrom sheet.now edges.now h w from result }
 {
-    walk::reach(sheet, edges, h, w, index, bits::one_row(from))
+    walk::reach(sheet, edges, h, w, index, from)
 }

@@ -1,12 +1,13 @@
--- A row that counts is redundant exactly if its walk past it reaches its to end: the grants' walk, or for a ban row the bans'.
+-- A row that counts is redundant exactly if the numbers of its walk past it reach its to end: the grants' walk, or for a ban row the bans'.
 -- Assumes nothing.
 use Prim.Native.Nat.{ℕ, ◌<◌, ◌≤◌}
 use native.Mathlib.Omega.{arith}
 use mathlib.Core.Path.{◌≡◌, refl, sym, ap, subst, ◌∙◌}
-use mathlib.Core.Bool.{Bool, true, false, ◌&&◌, true≢false}
+use mathlib.Core.Bool.{Bool, true, false, not, ◌&&◌, true≢false}
 use mathlib.Core.List.{List, ◌∷◌}
 use mathlib.Core.Logic.{◌↔◌, inl, inr}
 use lib.Dec.{eqb}
+use lib.ListN.{length, get_or}
 use borrow.Author.Tests.{eqb-true, eq-eqb}
 use Rattle.tables.specs.Count.{some_row}
 use Rattle.tables.specs.Key.{Key, relation}
@@ -16,6 +17,7 @@ use Rattle.sheet.specs.Kinds.{member_kind, grant_kind, ban_kind}
 use Rattle.sheet.specs.declared.Header.{Header}
 use Rattle.sheet.specs.declared.Edge.{Edge}
 use Rattle.sheet.specs.declared.Seat.{Seat}
+use Rattle.sheet.specs.Limits.{max_nodes}
 use Rattle.sheet.specs.Rows.{header_of, node_at, edge_at, edge_of, edge_table, node_key_at, ends_fit}
 use Rattle.sheet.specs.Accepted.{WellFormed, Accepted}
 use Rattle.sheet.specs.Named.{edge_row}
@@ -23,17 +25,18 @@ use Rattle.sheet.specs.Seats.{counts_at, seen_from}
 use Rattle.sheet.proofs.Forming.{words_of}
 use Rattle.sheet.proofs.Naming.{edge-seen, seen-edge}
 use Rattle.sheet.proofs.Reading.{row_under}
-use Rattle.bits.specs.Sets.{in_set}
+use Rattle.paths.specs.Reached.{Layers}
 use Rattle.paths.proofs.Tests.{and_left, and_right, both}
 use Rattle.meaning.specs.Paths.{Side, grant, ban, right_kind, category, deed}
 use Rattle.meaning.specs.Answers.{Says}
 use Rattle.meaning.proofs.Sparing.{says-as}
 use Rattle.meaning.specs.Questions.{HasBanRow, AlsoMember, Redundant, member-row, containment-row, right-row, RedundantRow, RedundantEdgesAre}
 use Rattle.walk.specs.declared.Walk.{Walk}
-use Rattle.walk.specs.Arcs.{takes, walk_of, leaving_out}
+use Rattle.walk.specs.Arcs.{takes, Steps, walk_of, leaving_out}
 use Rattle.ask.proofs.Links.{kind-of, ends-are}
-use Rattle.reach.specs.Reaching.{LeadsTo, ReachedFrom}
+use Rattle.reach.specs.Reaching.{Tells, LeadsTo}
 use Rattle.reach.proofs.Collecting.{Collected, collected-all}
+use Rattle.reach.proofs.Marking.{reached-from}
 use Rattle.redundant.specs.Pruned.{step_of, LeadsPast, ban_at}
 use Rattle.redundant.proofs.Taking.{Straight, grants-straight, bans-straight}
 use Rattle.redundant.proofs.Past.{PastBy, also-member, also-contained, also-right, past-found, found-past}
@@ -155,14 +158,18 @@ pub unmarked : (s t : List ℕ) (h : Header) → WellFormed s t h → (seat : Se
 unfolding edge_row
 unmarked s t h f seat j e q n r = let own = q ∙ row_under s t h f j in true≢false (sym r.bears ∙ rw (own, f.table) at n)
 
--- ---- whether other steps lead past a row, by what the walk without its step reaches
+-- ---- a walk's number tells whether other steps lead past a row
 
-pub past-told : (s t : List ℕ) (h : Header) (seat : Seat) (right : ℕ) (e : Edge) (w : Walk) (reached : List ℕ) (b : Bool) → w ≡ leaving_out (walk_of seat right 0) (step_of e) → ReachedFrom s t h w e.from reached → b ≡ in_set reached e.to → Says b (LeadsPast s t h seat right e)
-past-told s t h seat right e w reached b q y z = subst (λ (x : Walk). Says b (LeadsTo s t h x e.from e.to)) q (go b (sym z))
+pub past-told : (s t : List ℕ) (h : Header) (seat : Seat) (right : ℕ) (e : Edge) (w : Walk) (d : List ℕ) → w ≡ leaving_out (walk_of seat right 0) (step_of e) → (length d ≡ max_nodes) × Layers (Steps s t w h.edges) (λ x. x ≡ e.from) d
+    → e.to < h.nodes → Says (not (eqb (get_or d e.to 0) 0)) (LeadsPast s t h seat right e)
+past-told s t h seat right e w d q y l = subst (λ (x : Walk). Says (not (eqb (get_or d e.to 0) 0)) (LeadsTo s t h x e.from e.to)) q (go (eqb (get_or d e.to 0) 0) refl)
   where
-    go : (b : Bool) → in_set reached e.to ≡ b → Says b (LeadsTo s t h w e.from e.to)
-    go true = (y.each e.to).yes
-    go false = (y.each e.to).no
+    T : Tells (get_or d e.to 0) (LeadsTo s t h w e.from e.to)
+    T = (reached-from s t h w e.from d y.0 y.1).each e.to l
+
+    go : (b : Bool) → eqb (get_or d e.to 0) 0 ≡ b → Says (not b) (LeadsTo s t h w e.from e.to)
+    go true z = T.no (eqb-true _ 0 z)
+    go false z = T.yes (λ n. true≢false (sym (eq-eqb _ 0 n) ∙ z))
 
 -- ---- an office has a ban row exactly if one of the rows that count is a ban
 

@@ -34,15 +34,16 @@ fn leads_past(
     h: Header,
     seat: Seat,
     right: u32,
-    index: &[u16],
+    index: &[u32],
     e: Edge,
 ) -> bool
     requires { WellFormed sheet.now edges.now h × Seated seat × Arranged sheet.now edges.now h (walk_of seat right 0) index.now × (e.from < h.nodes) × (e.to < h.nodes) }
     ensures { Says result (LeadsPast sheet.now edges.now h seat right e) }
 {
     let past = walk::leaving_out(walk::walk_of(seat, right, 0), step_of(e));
-    let reached = walk::reach(sheet, edges, h, past, index, bits::one_row(e.from));
-    bits::is_in(&reached, e.to)
+    let d = walk::reach(sheet, edges, h, past, index, e.from);
+    let to = e.to as usize;
+    d[to] != 0
 }
 
 // Whether the office has a ban row.
@@ -68,8 +69,8 @@ fn both_lead_past(
     edges: &[u32],
     h: Header,
     seat: Seat,
-    grantindex: &[u16],
-    banindex: &[u16],
+    grantindex: &[u32],
+    banindex: &[u32],
     e: Edge,
 ) -> bool
     requires { AtSeat sheet.now edges.now h seat × BothArranged sheet.now edges.now h seat grantindex.now banindex.now × (e.from < h.nodes) × (e.to < h.nodes) }
@@ -89,8 +90,8 @@ fn is_redundant(
     h: Header,
     seat: Seat,
     bans: bool,
-    grantindex: &[u16],
-    banindex: &[u16],
+    grantindex: &[u32],
+    banindex: &[u32],
     j: u32,
 ) -> bool
     requires { AtSeat sheet.now edges.now h seat × (j < h.edges) × BothArranged sheet.now edges.now h seat grantindex.now banindex.now × (bans ≡ some_row (ban_at edges.now h seat) h.edges) }
@@ -116,8 +117,8 @@ fn prune(
     h: Header,
     seat: Seat,
     bans: bool,
-    grantindex: &[u16],
-    banindex: &[u16],
+    grantindex: &[u32],
+    banindex: &[u32],
     list: &mut [u32],
 ) -> FoundWords
     requires { AtSeat sheet.now edges.now h seat × BothArranged sheet.now edges.now h seat grantindex.now banindex.now × (bans ≡ some_row (ban_at edges.now h seat) h.edges) × (length list.old ≡ most_edges) }

@@ -32,16 +32,11 @@ fn marks_within(marks: u32, others: u32) -> bool
 fn ends_fit(kind: u32, from: u32, to: u32) -> bool
     ensures { result ≡ ends_fit kind from to }
 {
-    if kind == MEMBER {
-        return (from == PERSON) & (to == CATEGORY);
-    }
-    if kind == CONTAINED {
-        return (from == CATEGORY) & (to == CATEGORY);
-    }
-    if (kind == GRANT) | (kind == BAN) {
-        return (from == CATEGORY) & (to == DEED);
-    }
-    (kind == APPLIES) & ((from == DEED) & (to == FOLIO))
+    ((kind == MEMBER) & ((from == PERSON) & (to == CATEGORY)))
+        | (((kind == CONTAINED) & ((from == CATEGORY) & (to == CATEGORY)))
+            | (((kind == GRANT) & ((from == CATEGORY) & (to == DEED)))
+                | (((kind == BAN) & ((from == CATEGORY) & (to == DEED)))
+                    | ((kind == APPLIES) & ((from == DEED) & (to == FOLIO))))))
 }
 
 // The first of two numbers that is not 0.
@@ -140,17 +135,15 @@ fn edge_fit(h: Header, e: Edge, a: Node, b: Node) -> u32
 fn row_order(equal: u32, lower: u32, i: usize, before: Cells, c: Cells) -> u32
     ensures { result ≡ row_order equal lower i (row_key before) (row_key c) }
 {
-    if i == 0 {
-        return 0;
-    }
-    // A sheet that is in order has this alone to ask of each row.
-    if sheet::below_row(before, c) {
-        return 0;
-    }
-    if sheet::same_row(before, c) {
+    let same = sheet::same_row(before, c);
+    if (0 < i) & same {
         return equal;
     }
-    lower
+    let less = sheet::below_row(c, before);
+    if (0 < i) & less {
+        return lower;
+    }
+    0
 }
 
 // 6 to 10, of node row i.
@@ -171,12 +164,9 @@ fn edge_rest(sheet: &[u32], edges: &[u32], h: Header, j: usize, e: Edge) -> u32
 {
     let a = sheet::node_at(sheet, e.from as usize);
     let b = sheet::node_at(sheet, e.to as usize);
-    let k = edge_fit(h, e, a, b);
-    if k != 0 {
-        return k;
-    }
     let p = sheet::edge_cells(sheet::edge_at(edges, h, sheet::before(j)));
-    row_order(16, 17, j, p, sheet::edge_cells(e))
+    let k = row_order(16, 17, j, p, sheet::edge_cells(e));
+    or_else(edge_fit(h, e, a, b), k)
 }
 
 // 11 to 17, of row j of the edge table.

@@ -1,8 +1,7 @@
 -- `ask::answer_checked` meets its contract: refused as the question stands, or the answer at the rows where it is placed.
 -- Assumes nothing.
-use borrow.Author.Rules.{rules}
 use mathlib.Core.Path.{refl, sym, subst, ◌∙◌}
-use native.Mathlib.Omega.{arith}
+use borrow.Author.Rules.{rules}
 use Rattle.sheet.proofs.Forming.{words_of}
 use Rattle.question.proofs.Telling.{reply-refused, reply-told}
 use Rattle.meaning.specs.Answers.{AnswerIs}
@@ -20,28 +19,19 @@ refused-by-requires c κs = search rules
 returns : tie.Need-returns
 returns c = reply-refused _ _ _ _ c.before.before.before.Stand-of.ensures.number c.before.if1.true c.refused-by.ensures
 
-slice-aggregate-note-places : tie.Need-slice-aggregate-note-places
-slice-aggregate-note-places c = search rules
-
-note-places-requires : tie.Need-note-places-requires
-note-places-requires c κs = let S = c.before.before.before.before.before.before.requires in (S, omega (arith, S.nodes.header.nodes))
-
-slice-aggregate-answer-at : tie.Need-slice-aggregate-answer-at
-slice-aggregate-answer-at c = search rules
-
 answer-at-requires : tie.Need-answer-at-requires
-answer-at-requires c κs = let S = c.before.before.before.before.before.before.before.before.before in
-    let T = c.before.before.before.before.before.before.Stand-of.ensures in
-    let z = c.before.before.before.before.if1.false in
-    (record { formed = S.requires; seated = (T.seat z).1 }, c.before.before.note-places.ensures, T.placed z)
+answer-at-requires c κs = let S = c.before.before.before.before.before in
+    let T = c.before.before.Stand-of.ensures in
+    let z = c.if1.false in
+    (record { formed = S.requires; seated = (T.seat z).1 }, T.placed z)
 
 told-requires : tie.Need-told-requires
 told-requires c κs = search rules
 
 returns-2 : tie.Need-returns-2
-returns-2 c = let S = c.before.before.before.before.before.before.before.before.before.before.before in
-    let T = c.before.before.before.before.before.before.before.before.Stand-of.ensures in
-    let z = c.before.before.before.before.before.before.if1.false in
+returns-2 c = let S = c.before.before.before.before.before.before.before in
+    let T = c.before.before.before.before.Stand-of.ensures in
+    let z = c.before.before.if1.false in
     reply-told _ _ _ _ _ (sym T.number ∙ z)
     (subst (λ (x : Seat). AnswerIs (seen_from S.args.sheet.now x) S.args.q.person S.args.q.deed S.args.q.folio c.before.answer_at.result) (T.seat z).0 c.before.answer_at.ensures, refl)
     c.told.ensures
@@ -53,9 +43,6 @@ answer-checked-spec =
     stand-of-requires
     refused-by-requires
     returns
-    slice-aggregate-note-places
-    note-places-requires
-    slice-aggregate-answer-at
     answer-at-requires
     told-requires
     returns-2)

@@ -1,11 +1,11 @@
 -- `ask::answers_of` meets its contract. The loop's invariant: the answers of the offices passed are in their places.
 -- Assumes nothing.
-use borrow.Author.Rules.{rules}
 use Prim.Native.Nat.{ℕ, suc, ◌-◌, ◌<◌, ◌≤◌}
 use mathlib.Core.Path.{◌≡◌, refl, ◌∙◌}
 use native.Mathlib.Numerals.{add-one}
 use native.Mathlib.Omega.{arith}
 use lib.ListN.{length, get_or, length-set}
+use borrow.Author.Rules.{rules}
 use Rattle.ask.proofs.Jointly.{one_more}
 use Rattle.meaning.specs.Answers.{AnswerIs}
 use Rattle.sheet.specs.Limits.{max_offices}
@@ -14,16 +14,10 @@ use Rattle.ask.proofs.answers_of.Statement.{statement}
 use Rattle.ask.proofs.answers_of.Tie as tie
 
 abbrev invariant-loop : tie.invariant-loop
-invariant-loop sheet edges h q places rs₀ n k₀ rs k = (k ≤ n) × (length rs ≡ max_offices) × ((i : ℕ) → i < k → AnswerIs (seen_at sheet (suc i)) q.person q.deed q.folio (get_or rs i 0))
+invariant-loop sheet edges h q rs₀ n k₀ rs k = (k ≤ n) × (length rs ≡ max_offices) × ((i : ℕ) → i < k → AnswerIs (seen_at sheet (suc i)) q.person q.deed q.folio (get_or rs i 0))
 
 abbrev decreases-loop : tie.decreases-loop
-decreases-loop sheet edges h q places rs₀ n k₀ rs k = n - k
-
-slice-aggregate-note-places : tie.Need-slice-aggregate-note-places invariant-loop decreases-loop
-slice-aggregate-note-places c = search rules
-
-note-places-requires : tie.Need-note-places-requires invariant-loop decreases-loop
-note-places-requires c κs = let S = c.before.before.before.requires in (S, omega (arith, S.nodes.header.nodes))
+decreases-loop sheet edges h q rs₀ n k₀ rs k = n - k
 
 loop-holds : tie.Need-loop-init invariant-loop decreases-loop
 loop-holds c = (search rules, refl, λ i l. absurd (omega arith))
@@ -32,22 +26,19 @@ add-seat-at : tie.Need-overflow-add-seat-at invariant-loop decreases-loop
 add-seat-at c = omega arith
 
 seat-at-requires : tie.Need-seat-at-requires invariant-loop decreases-loop
-seat-at-requires c κs = (omega arith, omega (arith, c.loop-test.true, c.before.before.before.before.before.before.before.requires.nodes.header))
+seat-at-requires c κs = (omega arith, omega (arith, c.loop-test.true, c.before.before.before.before.requires.nodes.header))
 
 cast-at : tie.Need-overflow-cast-at invariant-loop decreases-loop
 cast-at c = search rules
 
-slice-aggregate-answer-from : tie.Need-slice-aggregate-answer-from invariant-loop decreases-loop
-slice-aggregate-answer-from c = search rules
-
-answer-from-requires : tie.Need-answer-from-requires invariant-loop decreases-loop
-answer-from-requires c κs = (record { formed = c.before.before.before.before.before.before.before.before.before.requires; seated = c.before.seat-at.ensures.1 }, c.before.before.before.before.before.note-places.ensures)
+office-answer-requires : tie.Need-office-answer-requires invariant-loop decreases-loop
+office-answer-requires c κs = record { formed = c.before.before.before.before.before.requires; seated = c.seat-at.ensures.1 }
 
 mul-rs : tie.Need-overflow-mul-rs invariant-loop decreases-loop
 mul-rs c = search rules
 
 array-write-rs : tie.Need-array-write-rs invariant-loop decreases-loop
-array-write-rs c = omega (arith, c.before.before.before.loop-test.true, c.before.before.before.before.before.before.before.before.before.before.requires.nodes.header)
+array-write-rs c = omega (arith, c.before.before.loop-test.true, c.before.before.before.before.before.before.requires.nodes.header)
 
 add-k : tie.Need-overflow-add-k invariant-loop decreases-loop
 add-k c = omega arith
@@ -56,9 +47,9 @@ loop-less : tie.Need-loop-smaller invariant-loop decreases-loop
 loop-less c = omega arith
 
 loop-again : tie.Need-loop-preserved invariant-loop decreases-loop
-loop-again c = let L = c.before.before.before.before.loop in
-    let S = c.before.before.before.before.before.before.before.before.before.before in
-    (omega arith, length-set {A = ℕ} L.rs L.k c.answer-from.result ∙ L.invariant.1, one_more (λ i r. AnswerIs (seen_at S.args.sheet.now (suc i)) S.args.q.person S.args.q.deed S.args.q.folio r) L.rs L.k c.answer-from.result (omega (arith, L.invariant.1, S.requires.nodes.header)) L.invariant.2 (rw (c.before.before.seat-at.ensures.0, add-one) at c.answer-from.ensures))
+loop-again c = let L = c.before.before.before.loop in
+    let S = c.before.before.before.before.before.before in
+    (omega arith, length-set {A = ℕ} L.rs L.k c.office-answer.result ∙ L.invariant.1, one_more (λ i r. AnswerIs (seen_at S.args.sheet.now (suc i)) S.args.q.person S.args.q.deed S.args.q.folio r) L.rs L.k c.office-answer.result (omega (arith, L.invariant.1, S.requires.nodes.header)) L.invariant.2 (rw (c.before.seat-at.ensures.0, add-one) at c.office-answer.ensures))
 
 returns : tie.Need-returns invariant-loop decreases-loop
 returns c = let L = c.before.loop in
@@ -70,14 +61,11 @@ answers-of-spec =
     (tie.spec
     invariant-loop
     decreases-loop
-    slice-aggregate-note-places
-    note-places-requires
     loop-holds
     add-seat-at
     seat-at-requires
     cast-at
-    slice-aggregate-answer-from
-    answer-from-requires
+    office-answer-requires
     mul-rs
     array-write-rs
     add-k

@@ -10,11 +10,8 @@ right-of-requires c κs = search rules
 walk_of-requires : tie.Need-walk_of-requires
 walk_of-requires c κs = search rules
 
-of-person-requires : tie.Need-of-person-requires
-of-person-requires c κs = search rules
-
 returns : tie.Need-returns
-returns c = rw (c.of-person.ensures, c.before.walk_of.ensures, c.before.before.right_of.ensures)
+returns c = rw (c.walk_of.ensures, c.before.right_of.ensures)
 
 pub walk-for-spec : {M : Type 1} → statement M
-walk-for-spec = tie.close (tie.spec right-of-requires walk_of-requires of-person-requires returns)
+walk-for-spec = tie.close (tie.spec right-of-requires walk_of-requires returns)

@@ -33,8 +33,8 @@ returns c = let S = c.before.before.before.before.before.before.before.before in
     let T = c.before.before.named3 in
     let W = c.before.before.before.before.before.right_of in
     carries-by g (side_of S.args.q.kind) W.result S.args.q.deed S.args.v S.args.q.folio S.args.c _ _ W.ensures
-    (relation-named g W.result _ _ _ _ _ A.ensures B.ensures c.before.is-related.ensures)
-    (relation-named g 5 _ _ _ _ _ B.ensures T.ensures c.is-related2.ensures)
+    (relation-named g W.result A.result B.result _ _ _ A.ensures B.ensures c.before.is-related.ensures)
+    (relation-named g 5 B.result T.result _ _ _ B.ensures T.ensures c.is-related2.ensures)
 
 pub is-carried-spec : {M : Type 1} → statement M
 is-carried-spec =

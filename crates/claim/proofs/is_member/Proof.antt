@@ -17,7 +17,7 @@ is-related-requires c κs = search rules
 
 returns : tie.Need-returns
 returns c = let S = c.before.before.before.before.before in
-    relation-named (seen_from S.args.sheet.now S.args.seat) 1 _ _ _ _ _ c.before.before.named.ensures c.before.named2.ensures c.is-related.ensures
+    relation-named (seen_from S.args.sheet.now S.args.seat) 1 c.before.before.named.result c.before.named2.result _ _ _ c.before.before.named.ensures c.before.named2.ensures c.is-related.ensures
 
 pub is-member-spec : {M : Type 1} → statement M
 is-member-spec = tie.close (tie.spec named-requires named-requires-2 is-related-requires returns)

@@ -1,8 +1,8 @@
--- `claim::is_related` meets its contract: a relation between two identities is seen exactly if both stand and that between their rows is seen.
+-- `claim::is_related` meets its contract: a relation is seen exactly if the edge row between the rows of its ends stands and counts.
 -- Assumes nothing.
-use borrow.Author.Rules.{rules}
 use borrow.Author.Tests.{not-true, not-false}
-use Rattle.claim.proofs.Listing.{node-there, not-from, not-to, by_rows}
+use Rattle.claim.proofs.Listing.{own-edges, edge-there, not-from, not-to, not-edge, edge-counts}
+use borrow.Author.Rules.{rules}
 use Rattle.claim.proofs.is_related.Statement.{statement}
 use Rattle.claim.proofs.is_related.Tie as tie
 
@@ -20,19 +20,36 @@ returns-2 : tie.Need-returns-2
 returns-2 c = let S = c.before.before.before.before.before.before.before.before in
     not-to _ _ _ _ S.requires _ S.args.a S.args.b _ c.before.before.find-row2.ensures (not-true _ c.if2.true)
 
-cast-is-joined : tie.Need-overflow-cast-is-joined
-cast-is-joined c = search rules
+cast-named : tie.Need-overflow-cast-named
+cast-named c = search rules
 
-cast-is-joined-2 : tie.Need-overflow-cast-is-joined-2
-cast-is-joined-2 c = search rules
+cast-named-2 : tie.Need-overflow-cast-named-2
+cast-named-2 c = search rules
 
-is-joined-requires : tie.Need-is-joined-requires
-is-joined-requires c κs = let S = c.before.before.before.before.before.before.before.before.before.before in
-    (S.requires, (node-there _ _ _ _ S.requires _ _ c.before.before.before.before.before.before.before.find-row.ensures (not-false _ c.before.before.before.before.before.if1.false)).0, (node-there _ _ _ _ S.requires _ _ c.before.before.before.before.find-row2.ensures (not-false _ c.before.before.if2.false)).0)
+named-requires : tie.Need-named-requires
+named-requires c κs = search rules
+
+find-row-requires-3 : tie.Need-find-row-requires-3
+find-row-requires-3 c κs = own-edges _ _ _ _ c.before.before.before.before.before.before.before.before.before.before.before.requires
 
 returns-3 : tie.Need-returns-3
-returns-3 c = let S = c.before.before.before.before.before.before.before.before.before.before.before in
-    by_rows _ _ _ _ S.requires _ S.args.a S.args.b _ _ _ c.before.before.before.before.before.before.before.before.find-row.ensures (not-false _ c.before.before.before.before.before.before.if1.false) c.before.before.before.before.before.find-row2.ensures (not-false _ c.before.before.before.if2.false) c.is-joined.ensures
+returns-3 c =
+    let S = c.before.before.before.before.before.before.before.before.before.before.before.before.before.before in
+    not-edge _ _ _ _ S.requires _ S.args.a S.args.b _ _ c.before.before.before.before.before.before.before.before.before.before.before.find-row.ensures (not-false _ c.before.before.before.before.before.before.before.before.before.if1.false) c.before.before.before.before.before.before.before.before.find-row2.ensures (not-false _ c.before.before.before.before.before.before.if2.false) _ c.before.before.before.named.ensures _ c.before.before.find-row3.ensures
+    (not-true _ c.if3.true)
+
+edge-at-requires : tie.Need-edge-at-requires
+edge-at-requires c κs = let S = c.before.before.before.before.before.before.before.before.before.before.before.before.before.before in
+    (S.requires.formed.edges.room, (edge-there _ _ _ _ S.requires _ _ c.before.before.find-row3.ensures (not-false _ c.if3.false)).0)
+
+counts-requires : tie.Need-counts-requires
+counts-requires c κs = c.before.before.before.before.before.before.before.before.before.before.before.before.before.before.before.requires.seated
+
+returns-4 : tie.Need-returns-4
+returns-4 c =
+    let S = c.before.before.before.before.before.before.before.before.before.before.before.before.before.before.before.before in
+    edge-counts _ _ _ _ S.requires _ S.args.a S.args.b _ _ c.before.before.before.before.before.before.before.before.before.before.before.before.before.find-row.ensures (not-false _ c.before.before.before.before.before.before.before.before.before.before.before.if1.false) c.before.before.before.before.before.before.before.before.before.before.find-row2.ensures (not-false _ c.before.before.before.before.before.before.before.before.if2.false) _ c.before.before.before.before.before.named.ensures _ c.before.before.before.before.find-row3.ensures
+    (not-false _ c.before.before.if3.false) _ _ c.before.edge_at.ensures c.counts.ensures
 
 pub is-related-spec : {M : Type 1} → statement M
 is-related-spec =
@@ -42,7 +59,11 @@ is-related-spec =
     returns
     find-row-requires-2
     returns-2
-    cast-is-joined
-    cast-is-joined-2
-    is-joined-requires
-    returns-3)
+    cast-named
+    cast-named-2
+    named-requires
+    find-row-requires-3
+    returns-3
+    edge-at-requires
+    counts-requires
+    returns-4)

@@ -1,8 +1,7 @@
--- `lists::folios_out_of_reach_at` meets its contract: the folios that the walk from all persons does not reach are those out of reach.
+-- `lists::folios_out_of_reach_at` meets its contract: the folios that the walk from all persons does not number are those out of reach.
 -- Assumes nothing.
-use borrow.Author.Rules.{rules}
 use Rattle.lists.proofs.Unreached.{unreached-found}
-use Rattle.reach.proofs.Marking.{ready_at}
+use borrow.Author.Rules.{rules}
 use Rattle.lists.proofs.folios_out_of_reach_at.Statement.{statement}
 use Rattle.lists.proofs.folios_out_of_reach_at.Tie as tie
 
@@ -10,10 +9,7 @@ walk_of-requires : tie.Need-walk_of-requires
 walk_of-requires c κs = search rules
 
 persons-lead-requires : tie.Need-persons-lead-requires
-persons-lead-requires c κs = ready_at _ _ _ _ c.before.before.before.before.requires.0 _ _ _ c.walk_of.ensures
-
-slice-aggregate-numbers-of : tie.Need-slice-aggregate-numbers-of
-slice-aggregate-numbers-of c = search rules
+persons-lead-requires c κs = let S = c.before.before.before.before.requires.0 in (S.formed, rw c.walk_of.ensures S.seated)
 
 numbers-of-requires : tie.Need-numbers-of-requires
 numbers-of-requires c κs = search rules
@@ -22,7 +18,9 @@ same_length : tie.Need-same-length
 same_length c = search rules
 
 returns : tie.Need-returns
-returns c = unreached-found _ _ _ _ c.before.before.before.before.before.before.before.before.before.before.requires.0 _ (rw c.before.before.before.before.before.before.walk_of.ensures at c.before.before.before.before.before.persons-lead.ensures) c.before.before.Numbers-of.ensures
+returns c =
+    let S = c.before.before.before.before.before.before.before.before.before in
+    unreached-found _ _ _ _ S.requires.0 _ (rw c.before.before.before.before.before.walk_of.ensures at c.before.before.before.before.persons-lead.ensures) c.before.before.Numbers-of.ensures
 
 pub folios-out-of-reach-at-spec : {M : Type 1} → statement M
 folios-out-of-reach-at-spec =
@@ -30,7 +28,6 @@ folios-out-of-reach-at-spec =
     (tie.spec
     walk_of-requires
     persons-lead-requires
-    slice-aggregate-numbers-of
     numbers-of-requires
     same_length
     returns)

@@ -1,7 +1,8 @@
--- `lists::person_reaches` meets its contract: a row that is no person's does not count, and else what is reached from it tells.
+-- `lists::person_reaches` meets its contract: nothing is said of a row that is no person's, and else the walk's number at the row tells.
 -- Assumes nothing.
+use Rattle.sheet.specs.declared.Node.{Node}
+use mathlib.Core.Path.{ap, ◌∙◌}
 use borrow.Author.Rules.{rules}
-use Rattle.lists.proofs.Persons.{no-person-reaches, person-reaches-by}
 use Rattle.lists.proofs.person_reaches.Statement.{statement}
 use Rattle.lists.proofs.person_reaches.Tie as tie
 
@@ -9,19 +10,19 @@ node-at-requires : tie.Need-node-at-requires
 node-at-requires c κs = search rules
 
 returns : tie.Need-returns
-returns c = no-person-reaches _ _ _ _ _ _ _ c.before.before.Node-at.ensures c.if1.true
+returns c = λ e. absurd (c.if1.true (ap (λ (x : Node). x.class) c.before.before.Node-at.ensures ∙ e))
 
 person-reach-requires : tie.Need-person-reach-requires
 person-reach-requires c κs = search rules
 
-slice-aggregate-is-in : tie.Need-slice-aggregate-is-in
-slice-aggregate-is-in c = search rules
+mul-result : tie.Need-overflow-mul-result
+mul-result c = search rules
 
-is-in-requires : tie.Need-is-in-requires
-is-in-requires c κs = search rules
+array-read-result : tie.Need-array-read-result
+array-read-result c = search rules
 
 returns-2 : tie.Need-returns-2
-returns-2 c = person-reaches-by _ _ _ _ _ _ _ c.before.before.before.before.before.Node-at.ensures c.before.before.before.if1.false _ c.before.before.person-reach.ensures c.is-in.result c.is-in.ensures
+returns-2 c = λ e. c.person-reach.ensures.each _ c.before.before.before.before.before.before.before.requires.4
 
 pub person-reaches-spec : {M : Type 1} → statement M
 person-reaches-spec =
@@ -30,6 +31,6 @@ person-reaches-spec =
     node-at-requires
     returns
     person-reach-requires
-    slice-aggregate-is-in
-    is-in-requires
+    mul-result
+    array-read-result
     returns-2)

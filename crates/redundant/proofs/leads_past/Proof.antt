@@ -1,10 +1,9 @@
--- `redundant::leads_past` meets its contract: the walk past the row reaches its to end exactly if it leads there.
+-- `redundant::leads_past` meets its contract: the walk past the row has a number at its to end exactly if it leads there.
 -- Assumes nothing.
-use borrow.Author.Rules.{rules}
 use mathlib.Core.Path.{refl, ◌∙◌}
 use native.Mathlib.Omega.{arith}
+use borrow.Author.Rules.{rules}
 use Rattle.walk.proofs.Walking.{arranged-but}
-use Rattle.reach.proofs.Marking.{reached-from}
 use Rattle.redundant.proofs.Pruning.{past-told}
 use Rattle.redundant.proofs.leads_past.Statement.{statement}
 use Rattle.redundant.proofs.leads_past.Tie as tie
@@ -18,27 +17,26 @@ step-of-requires c κs = search rules
 leaving-out-requires : tie.Need-leaving-out-requires
 leaving-out-requires c κs = search rules
 
-one-row-requires : tie.Need-one-row-requires
-one-row-requires c κs = search rules
-
 reach-requires : tie.Need-reach-requires
-reach-requires c κs = let S = c.before.before.before.before.before.before.before.requires in
-    rw (c.before.leaving-out.ensures, c.before.before.before.walk_of.ensures) (record { formed = S.0; seated = S.1 }, arranged-but _ _ _ _ _ _ S.2, c.one-row.ensures.long)
+reach-requires c κs = let S = c.before.before.before.before.before.before.requires in
+    rw (c.leaving-out.ensures, c.before.before.walk_of.ensures) (S.0, S.1, arranged-but _ _ _ _ _ _ S.2, S.3)
 
-slice-aggregate-is-in : tie.Need-slice-aggregate-is-in
-slice-aggregate-is-in c = search rules
+cast-to : tie.Need-overflow-cast-to
+cast-to c = search rules
 
-is-in-requires : tie.Need-is-in-requires
-is-in-requires c κs = let S = c.before.before.before.before.before.before.before.before.before.requires in
-    omega (arith, S.4, S.0.nodes.header, c.before.reach.ensures.0)
+mul-result : tie.Need-overflow-mul-result
+mul-result c = search rules
+
+array-read-result : tie.Need-array-read-result
+array-read-result c = let S = c.before.before.before.before.before.before.before.before.requires in
+    omega (arith, S.4, S.0.nodes.header)
 
 returns : tie.Need-returns
-returns c = let S = c.before.before.before.before.before.before.before.before.before.before in
-    let L = c.before.before.before.before.leaving-out.ensures in
-    let W = c.before.before.before.before.before.before.walk_of.ensures in
-    let B = c.before.before.before.before.before.step_of_lem.ensures in
-    let E = c.before.before.reach.ensures in
-    past-told _ _ _ S.args.seat S.args.right S.args.e _ _ c.is-in.result (L ∙ rw (W, B) refl) (reached-from _ _ _ _ _ _ _ c.before.before.before.one-row.ensures E.0 E.1) c.is-in.ensures
+returns c = let S = c.before.before.before.before.before.before.before.before in
+    let L = c.before.before.leaving-out.ensures in
+    let W = c.before.before.before.before.walk_of.ensures in
+    let B = c.before.before.before.step_of_lem.ensures in
+    past-told _ _ _ S.args.seat S.args.right S.args.e _ _ (L ∙ rw (W, B) refl) c.before.reach.ensures S.requires.4
 
 pub leads-past-spec : {M : Type 1} → statement M
 leads-past-spec =
@@ -47,8 +45,8 @@ leads-past-spec =
     walk_of-requires
     step-of-requires
     leaving-out-requires
-    one-row-requires
     reach-requires
-    slice-aggregate-is-in
-    is-in-requires
+    cast-to
+    mul-result
+    array-read-result
     returns)

@@ -1,2 +1,0 @@
-pub mod Adjoining
-pub mod Growing
