@@ -11,7 +11,7 @@ use Rattle.sheet.specs.declared.Node.{Node}
 use Rattle.sheet.specs.declared.Refusal.{Refusal}
 use Rattle.sheet.specs.Found.{PlaceIs}
 use Rattle.sheet.specs.Limits.{max_nodes, max_edges}
-use Rattle.sheet.specs.Refusals.{◌below◌, ◌when◌otherwise◌, ◌orElse◌}
+use Rattle.sheet.specs.Refusals.{◌below◌, ◌when◌otherwise◌, ◌or_else◌}
 use Rattle.sheet.specs.Rows.{header_of, count_in, node_cells, edge_cells, row_key, row_key_at}
 use Rattle.sheet.specs.Verdict.{row_fault}
 use Rattle.meaning.specs.Added.{IsAdded}

@@ -1,4 +1,5 @@
 // Questions 1 to 3: the answer at an office, the joint answer, and the witness.
+#![tactic(auto)]
 ghost use Rattle.std.specs.Prelude.{◌≡◌, true, false, ℕ, suc, ◌*◌, ◌<◌, ◌≤◌, length, get_or, take, drop, ◌++◌};
 ghost use Rattle.sheet.specs.Limits.{max_offices, max_nodes};
 ghost use Rattle.sheet.specs.Refusals.{none};

@@ -1,4 +1,5 @@
 // Two sheets combined row by row: at each identity and relation the marks that a rule makes of both sheets', and no row where it makes none.
+#![tactic(auto)]
 ghost use Rattle.std.specs.Prelude.{◌≡◌, ltb, ◌+◌, ◌<◌, ◌≤◌, length};
 ghost use Rattle.tables.specs.Count.{number_of};
 ghost use Rattle.tables.specs.Key.{below_key};

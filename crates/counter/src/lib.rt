@@ -1,4 +1,5 @@
 // The counter: what a program in C or Rust calls. Questions 1 to 3 and the check are asked of a file's bytes, and every other function of a sheet's words.
+#![tactic(auto)]
 ghost use Rattle.std.specs.Prelude.{◌≡◌, [], ◌∷◌, length};
 ghost use Rattle.tables.specs.Key.{identity};
 ghost use Rattle.sheet.specs.Limits.{max_words};

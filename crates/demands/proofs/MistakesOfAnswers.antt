@@ -12,7 +12,7 @@ use Rattle.tables.specs.Table.{rows_of}
 use Rattle.tables.specs.Office.{some_of, holds, held_by}
 use Rattle.sheet.specs.Limits.{max_edges, edge_words, edge_place}
 use Rattle.sheet.specs.declared.Refusal.{Refusal}
-use Rattle.sheet.specs.Refusals.{◌when◌otherwise◌, ◌orElse◌, refuse, ◌then◌, first_row, none}
+use Rattle.sheet.specs.Refusals.{◌when◌otherwise◌, ◌or_else◌, refuse, ◌then◌, first_row, none}
 use Rattle.sheet.specs.Rows.{header_of, node_at, edge_at}
 use Rattle.sheet.specs.Verdict.{header_fault, sheet_fault, node_fault, row_order, edge_shape, edge_fit, node_fault_at, edge_rest, edge_fault_at, rows_verdict, verdict}
 use Rattle.sheet.specs.Accepted.{Accepted}
@@ -46,7 +46,7 @@ pub record DecidedByTheOtherSide : Type 0 where
 
 -- case 7: granted by office 2 though office 1 bans
 pub decided-by-the-other-side : DecidedByTheOtherSide → ⊥
-unfolding sheet_j header_of node_at edge_at edge_place edge_words node_row edge_row tables_of rows_of some_of holds held_by leads path spell is_path verdict rows_verdict sheet_fault header_fault max_edges node_fault_at node_fault row_order edge_fault_at edge_shape edge_rest edge_fit refuse ◌then◌ first_row ◌orElse◌ ◌when◌otherwise◌ some_row stands known unknown joint_fault after_sheet
+unfolding sheet_j header_of node_at edge_at edge_place edge_words node_row edge_row tables_of rows_of some_of holds held_by leads path spell is_path verdict rows_verdict sheet_fault header_fault max_edges node_fault_at node_fault row_order edge_fault_at edge_shape edge_rest edge_fit refuse ◌then◌ first_row ◌or_else◌ ◌when◌otherwise◌ some_row stands known unknown joint_fault after_sheet
 decided-by-the-other-side h = never (h.side-first (after_sheet sheet_j) sheet_j (asking 0 1 0 11 31 42) (answered 1 2 refl sister-ships.case7) refl grant refl) refl
   where
     never : {j : Joint} → SideFirst (seen_at sheet_j) 2 11 31 42 ban j → j.answer ≡ 1 → ⊥
@@ -73,7 +73,7 @@ pub record ShorterPathLeft : Type 0 where
 
 -- "among those the first in dictionary order": the path by 21 is shown, and comes before the one by 22
 pub shorter-path-left : ShorterPathLeft → ⊥
-unfolding two_ways header_of node_at edge_at edge_place edge_words node_row edge_row tables_of rows_of some_of holds held_by leads path spell is_path none_before verdict rows_verdict sheet_fault header_fault max_edges node_fault_at node_fault row_order edge_fault_at edge_shape edge_rest edge_fit refuse ◌then◌ first_row ◌orElse◌ ◌when◌otherwise◌ some_row stands known unknown bad_office ask_fault after_sheet side_of
+unfolding two_ways header_of node_at edge_at edge_place edge_words node_row edge_row tables_of rows_of some_of holds held_by leads path spell is_path none_before verdict rows_verdict sheet_fault header_fault max_edges node_fault_at node_fault row_order edge_fault_at edge_shape edge_rest edge_fit refuse ◌then◌ first_row ◌or_else◌ ◌when◌otherwise◌ some_row stands known unknown bad_office ask_fault after_sheet side_of
 shorter-path-left h =
     true≢false ((h.shortest two_ways (asking 1 0 0 11 31 41) by21
     (written by21 refl (witness-by two_ways (accepted 1 two_ways refl) 1 grant 11 31 41 (21 ∷ 22 ∷ []) (0 ∷ []) by21 1 refl refl refl) (omega arith)) refl).1 by22 refl)
@@ -84,7 +84,7 @@ pub record NoIsAnotherNumber : Type 0 where
 
 -- the empty list is no path, and that is told by 0
 pub no-is-another-number : NoIsAnotherNumber → ⊥
-unfolding sheet_a header_of node_at edge_at edge_place edge_words spell is_path verdict rows_verdict sheet_fault header_fault max_edges node_fault_at node_fault row_order edge_fault_at edge_shape edge_rest edge_fit refuse ◌then◌ first_row ◌orElse◌ ◌when◌otherwise◌ bad_office after_sheet
+unfolding sheet_a header_of node_at edge_at edge_place edge_words spell is_path verdict rows_verdict sheet_fault header_fault max_edges node_fault_at node_fault row_order edge_fault_at edge_shape edge_rest edge_fit refuse ◌then◌ first_row ◌or_else◌ ◌when◌otherwise◌ bad_office after_sheet
 no-is-another-number h = let e = (h.is-path sheet_a (asking 1 0 0 11 31 41) [] (answered 0 0 refl (refl, refl)) refl).1.1 (λ p. false≢true p) in omega arith
 
 pub record PathByTheOtherAxiom : Type 0 where
@@ -98,7 +98,7 @@ case2 = 11 ∷ 0 ∷ 21 ∷ 0 ∷ 22 ∷ 0 ∷ 31 ∷ 1 ∷ 41 ∷ 0 ∷ []
 
 -- case 1: 11 has a grant on 41, and (a2) has no ban
 pub path-by-the-other-axiom : PathByTheOtherAxiom → ⊥
-unfolding sheet_a node_row edge_row tables_of rows_of some_of holds held_by leads path spell is_path rests verdict rows_verdict sheet_fault header_fault max_edges node_fault_at node_fault row_order edge_fault_at edge_shape edge_rest edge_fit refuse ◌then◌ first_row ◌orElse◌ ◌when◌otherwise◌ header_of node_at edge_at edge_place edge_words
+unfolding sheet_a node_row edge_row tables_of rows_of some_of holds held_by leads path spell is_path rests verdict rows_verdict sheet_fault header_fault max_edges node_fault_at node_fault row_order edge_fault_at edge_shape edge_rest edge_fit refuse ◌then◌ first_row ◌or_else◌ ◌when◌otherwise◌ header_of node_at edge_at edge_place edge_words
 path-by-the-other-axiom h =
     no-path sheet_a (accepted 1 sheet_a refl) 1 ban 11 31 41 (21 ∷ []) refl ((a1-a2 (seen_at sheet_a 1) 11 31 41 ban).1 ((h.paths sheet_a case1 ban).0 (record { words = case2; is = refl })))
 
@@ -108,7 +108,7 @@ pub record ShortOutputHasNoPath : Type 0 where
 
 -- case 2's witness, and an output of no words
 pub short-output-has-no-path : ShortOutputHasNoPath → ⊥
-unfolding sheet_a node_row edge_row tables_of rows_of some_of holds held_by leads path spell is_path verdict rows_verdict sheet_fault header_fault max_edges node_fault_at node_fault row_order edge_fault_at edge_shape edge_rest edge_fit refuse ◌then◌ first_row ◌orElse◌ ◌when◌otherwise◌ header_of node_at edge_at edge_place edge_words some_row stands known unknown bad_office ask_fault after_sheet side_of
+unfolding sheet_a node_row edge_row tables_of rows_of some_of holds held_by leads path spell is_path verdict rows_verdict sheet_fault header_fault max_edges node_fault_at node_fault row_order edge_fault_at edge_shape edge_rest edge_fit refuse ◌then◌ first_row ◌or_else◌ ◌when◌otherwise◌ header_of node_at edge_at edge_place edge_words some_row stands known unknown bad_office ask_fault after_sheet side_of
 short-output-has-no-path h = h.refused-only sheet_a case1 [] (short case2 refl sister-ships.case2 (omega arith)) (accepted 1 sheet_a refl) refl (λ z. omega arith) case2 refl
 
 pub record ShownBytesHaveNoPath : Type 0 where
@@ -117,6 +117,6 @@ pub record ShownBytesHaveNoPath : Type 0 where
 
 -- case 2's witness is shown in an output of as many bytes
 pub shown-bytes-have-no-path : ShownBytesHaveNoPath → ⊥
-unfolding sheet_a node_row edge_row tables_of rows_of some_of holds held_by leads path spell is_path verdict rows_verdict sheet_fault header_fault max_edges node_fault_at node_fault row_order edge_fault_at edge_shape edge_rest edge_fit refuse ◌then◌ first_row ◌orElse◌ ◌when◌otherwise◌ header_of node_at edge_at edge_place edge_words some_row stands known unknown bad_office ask_fault after_file side_of words_of bytes_of bytes_fault bytes_verdict
+unfolding sheet_a node_row edge_row tables_of rows_of some_of holds held_by leads path spell is_path verdict rows_verdict sheet_fault header_fault max_edges node_fault_at node_fault row_order edge_fault_at edge_shape edge_rest edge_fit refuse ◌then◌ first_row ◌or_else◌ ◌when◌otherwise◌ header_of node_at edge_at edge_place edge_words some_row stands known unknown bad_office ask_fault after_file side_of words_of bytes_of bytes_fault bytes_verdict
 shown-bytes-have-no-path h =
     h.refused-only-bytes (bytes_of sheet_a) case1 (bytes_of case2) (written (bytes_of case2) refl (in_bytes case2 sister-ships.case2) (omega arith)) refl refl (λ z. omega arith) case2 refl

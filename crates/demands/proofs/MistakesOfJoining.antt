@@ -11,7 +11,7 @@ use Rattle.tables.specs.Key.{Key}
 use Rattle.tables.specs.Table.{rows_of, marks_at}
 use Rattle.tables.specs.Office.{some_of, holds, held_by, Same}
 use Rattle.sheet.specs.Limits.{max_edges, edge_words, edge_place}
-use Rattle.sheet.specs.Refusals.{◌when◌otherwise◌, ◌orElse◌, refuse, ◌then◌, first_row, none}
+use Rattle.sheet.specs.Refusals.{◌when◌otherwise◌, ◌or_else◌, refuse, ◌then◌, first_row, none}
 use Rattle.sheet.specs.Rows.{header_of, node_at, edge_at}
 use Rattle.sheet.specs.Verdict.{header_fault, sheet_fault, node_fault, row_order, edge_shape, edge_fit, node_fault_at, edge_rest, edge_fault_at, rows_verdict, verdict}
 use Rattle.sheet.specs.Accepted.{Accepted}
@@ -71,7 +71,7 @@ pub record BytesForWords : Type 0 where
 
 -- the joint of A and B has 70 words, and an output of 136 bytes, as many as B's file has, no room for them
 pub bytes-for-words : BytesForWords → ⊥
-unfolding sheet_a sheet_b edge_row how_many some_row has shared shared_nodes shared_edges union_nodes union_edges not_one too_much sheets_fault union_fault join_fault files_fault words_of bytes_of bytes_fault bytes_verdict verdict rows_verdict sheet_fault header_fault max_edges node_fault_at node_fault row_order edge_fault_at edge_shape edge_rest edge_fit refuse ◌then◌ first_row ◌orElse◌ ◌when◌otherwise◌ header_of node_at edge_at edge_place edge_words
+unfolding sheet_a sheet_b edge_row how_many some_row has shared shared_nodes shared_edges union_nodes union_edges not_one too_much sheets_fault union_fault join_fault files_fault words_of bytes_of bytes_fault bytes_verdict verdict rows_verdict sheet_fault header_fault max_edges node_fault_at node_fault row_order edge_fault_at edge_shape edge_rest edge_fit refuse ◌then◌ first_row ◌or_else◌ ◌when◌otherwise◌ header_of node_at edge_at edge_place edge_words
 bytes-for-words h =
     let e = (h.joins-files (bytes_of sheet_a) (bytes_of sheet_b) (bytes_of sheet_b) refl refl refl refl (record { nodes = omega arith; edges = omega arith; words = omega arith }) (refused (λ z. omega arith))).0 in
     omega arith
@@ -82,7 +82,7 @@ pub record RoomOneWordShort : Type 0 where
 
 -- B's one office is all of B, 34 words, which 33 have no room for
 pub room-one-word-short : RoomOneWordShort → ⊥
-unfolding sheet_b bad_office after_sheet verdict rows_verdict sheet_fault header_fault max_edges node_fault_at node_fault row_order edge_fault_at edge_shape edge_rest edge_fit refuse ◌then◌ first_row ◌orElse◌ ◌when◌otherwise◌ header_of node_at edge_at edge_place edge_words
+unfolding sheet_b bad_office after_sheet verdict rows_verdict sheet_fault header_fault max_edges node_fault_at node_fault row_order edge_fault_at edge_shape edge_rest edge_fit refuse ◌then◌ first_row ◌or_else◌ ◌when◌otherwise◌ header_of node_at edge_at edge_place edge_words
 room-one-word-short h =
     let e = (h.takes_out sheet_b 1 (drop 1 sheet_b) whole (omega arith) (omega arith) (omega arith) (short sheet_b refl itself (omega arith))).0 in
     omega arith
@@ -103,7 +103,7 @@ pub record OfficesAnswersExchanged : Type 0 where
 
 -- cases 4, 6 and 9: A bans, B grants, and first-applicable bans
 pub offices-answers-exchanged : OfficesAnswersExchanged → ⊥
-unfolding sheet_a sheet_b sheet_j verdict rows_verdict sheet_fault header_fault max_edges node_fault_at node_fault row_order edge_fault_at edge_shape edge_rest edge_fit refuse ◌then◌ first_row ◌orElse◌ ◌when◌otherwise◌ header_of node_at edge_at edge_place edge_words some_row stands known unknown bad_office ask_fault joint_fault after_sheet lowest jointly
+unfolding sheet_a sheet_b sheet_j verdict rows_verdict sheet_fault header_fault max_edges node_fault_at node_fault row_order edge_fault_at edge_shape edge_rest edge_fit refuse ◌then◌ first_row ◌or_else◌ ◌when◌otherwise◌ header_of node_at edge_at edge_place edge_words some_row stands known unknown bad_office ask_fault joint_fault after_sheet lowest jointly
 offices-answers-exchanged h =
     let e = h.combined sheet_a sheet_b sheet_j (asking 1 3 0 11 31 42) (record { formed = accepted 1 sheet_a refl; count = refl }) (record { formed = accepted 1 sheet_b refl; count = refl }) sister-ships.case11 refl
     (answered 1 0 refl (sister-ships.case6, refl)) (answered 2 0 refl (sister-ships.case4, refl)) (answered 2 1 refl sister-ships.case9) in
@@ -116,7 +116,7 @@ pub record Office1AskedTwice : Type 0 where
 
 -- case 7: office 1 of the joint sheet bans, and grant-first grants
 pub office-1-asked-twice : Office1AskedTwice → ⊥
-unfolding sheet_j node_row edge_row tables_of rows_of some_of holds held_by leads path spell is_path rests verdict rows_verdict sheet_fault header_fault max_edges node_fault_at node_fault row_order edge_fault_at edge_shape edge_rest edge_fit refuse ◌then◌ first_row ◌orElse◌ ◌when◌otherwise◌ header_of node_at edge_at edge_place edge_words some_row stands known unknown bad_office ask_fault joint_fault after_sheet lowest jointly
+unfolding sheet_j node_row edge_row tables_of rows_of some_of holds held_by leads path spell is_path rests verdict rows_verdict sheet_fault header_fault max_edges node_fault_at node_fault row_order edge_fault_at edge_shape edge_rest edge_fit refuse ◌then◌ first_row ◌or_else◌ ◌when◌otherwise◌ header_of node_at edge_at edge_place edge_words some_row stands known unknown bad_office ask_fault joint_fault after_sheet lowest jointly
 office-1-asked-twice h =
     let e = h.combined-within sheet_j (asking 1 1 0 11 31 42) (record { formed = whole; count = refl }) refl (answered 2 0 refl (bans, refl)) (answered 2 0 refl (bans, refl)) (answered 1 2 refl sister-ships.case7) in
     let n = ap (λ (r : Answer). r.value) e in

@@ -12,7 +12,7 @@ use Rattle.tables.specs.Key.{Key}
 use Rattle.sheet.specs.Limits.{max_edges, edge_words, edge_place}
 use Rattle.sheet.specs.declared.Refusal.{Refusal}
 use Rattle.sheet.specs.Parts.{Part}
-use Rattle.sheet.specs.Refusals.{◌when◌otherwise◌, ◌orElse◌, refuse, ◌then◌, first_row, none, short, written, Writes}
+use Rattle.sheet.specs.Refusals.{◌when◌otherwise◌, ◌or_else◌, refuse, ◌then◌, first_row, none, short, written, Writes}
 use Rattle.sheet.specs.Rows.{header_of, node_at, edge_at}
 use Rattle.sheet.specs.Verdict.{header_fault, sheet_fault, node_fault, row_order, edge_shape, edge_fit, node_fault_at, edge_rest, edge_fault_at, rows_verdict, verdict}
 use Rattle.sheet.specs.Accepted.{Accepted}
@@ -34,7 +34,7 @@ pub record QuestionBeforeFile : Type 0 where
 
 -- a file of one byte is refused by 33, and the words that it has, none, by 1
 pub question-before-file : QuestionBeforeFile → ⊥
-unfolding after_file after_sheet bytes_verdict bytes_fault words_of verdict rows_verdict sheet_fault refuse ◌then◌ ◌orElse◌ ◌when◌otherwise◌
+unfolding after_file after_sheet bytes_verdict bytes_fault words_of verdict rows_verdict sheet_fault refuse ◌then◌ ◌or_else◌ ◌when◌otherwise◌
 question-before-file h = let e = ap (λ (r : Refusal). r.number) (h.counter-1 (0 ∷ []) (asking 1 0 0 11 31 41) (refused (λ z. omega arith))) in omega arith
 
 pub record RefusedWhenWellFormed : Type 0 where
@@ -42,7 +42,7 @@ pub record RefusedWhenWellFormed : Type 0 where
 
 -- sheet A is well-formed, and not refused
 pub refused-when-well-formed : RefusedWhenWellFormed → ⊥
-unfolding sheet_a verdict rows_verdict sheet_fault header_fault max_edges node_fault_at node_fault row_order edge_fault_at edge_shape edge_rest edge_fit refuse ◌then◌ first_row ◌orElse◌ ◌when◌otherwise◌ header_of node_at edge_at edge_place edge_words
+unfolding sheet_a verdict rows_verdict sheet_fault header_fault max_edges node_fault_at node_fault row_order edge_fault_at edge_shape edge_rest edge_fit refuse ◌then◌ first_row ◌or_else◌ ◌when◌otherwise◌ header_of node_at edge_at edge_place edge_words
 refused-when-well-formed h = (h.sheets 1 sheet_a).1 (accepted 1 sheet_a refl) refl
 
 pub record ShortBefore33 : Type 0 where
@@ -71,7 +71,7 @@ pub record SecondSheetsRowGiven : Type 0 where
 
 -- person 11 is in A and in B: row 0 of A is given, and lies in A's block of memory
 pub second-sheets-row-given : SecondSheetsRowGiven → ⊥
-unfolding sheet_a sheet_b look_fault neither has_identity has some_row verdict rows_verdict sheet_fault header_fault max_edges node_fault_at node_fault row_order edge_fault_at edge_shape edge_rest edge_fit refuse ◌then◌ first_row ◌orElse◌ ◌when◌otherwise◌ header_of node_at edge_at edge_place edge_words
+unfolding sheet_a sheet_b look_fault neither has_identity has some_row verdict rows_verdict sheet_fault header_fault max_edges node_fault_at node_fault row_order edge_fault_at edge_shape edge_rest edge_fit refuse ◌then◌ first_row ◌or_else◌ ◌when◌otherwise◌ header_of node_at edge_at edge_place edge_words
 second-sheets-row-given h =
     let a : Part = record { block = 1; offset = 0; words = sheet_a } in
     let b : Part = record { block = 2; offset = 0; words = sheet_b } in
@@ -83,7 +83,7 @@ pub record RowToldForSheet : Type 0 where
 
 -- folio 42 is row 7 of the first sheet, A, and there is no sheet 7
 pub row-told-for-sheet : RowToldForSheet → ⊥
-unfolding sheet_a sheet_b look_fault neither has_identity has some_row verdict rows_verdict sheet_fault header_fault max_edges node_fault_at node_fault row_order edge_fault_at edge_shape edge_rest edge_fit refuse ◌then◌ first_row ◌orElse◌ ◌when◌otherwise◌ header_of node_at edge_at edge_place edge_words
+unfolding sheet_a sheet_b look_fault neither has_identity has some_row verdict rows_verdict sheet_fault header_fault max_edges node_fault_at node_fault row_order edge_fault_at edge_shape edge_rest edge_fit refuse ◌then◌ first_row ◌or_else◌ ◌when◌otherwise◌ header_of node_at edge_at edge_place edge_words
 row-told-for-sheet h = no-sheet-7 ((h.look-up-place sheet_a sheet_b (folio 42) (answered 1 7 refl (of-first 7 (omega arith) refl))).1 refl) refl
   where
     no-sheet-7 : {n i : ℕ} → StandsIn sheet_a sheet_b (folio 42) n i → n ≡ 7 → ⊥

@@ -15,7 +15,7 @@ use Rattle.tables.specs.Office.{View, some_of, holds, held_by}
 use Rattle.tables.proofs.Keys.{ne_same}
 use Rattle.sheet.specs.Kinds.{member_kind, contained_kind, grant_kind, ban_kind, applies_kind}
 use Rattle.sheet.specs.Limits.{max_edges, edge_words, edge_place}
-use Rattle.sheet.specs.Refusals.{◌when◌otherwise◌, ◌orElse◌, refuse, ◌then◌, first_row}
+use Rattle.sheet.specs.Refusals.{◌when◌otherwise◌, ◌or_else◌, refuse, ◌then◌, first_row}
 use Rattle.sheet.specs.Rows.{header_of, node_at, edge_at}
 use Rattle.sheet.specs.Verdict.{header_fault, sheet_fault, node_fault, row_order, edge_shape, edge_fit, node_fault_at, edge_rest, edge_fault_at, rows_verdict, verdict}
 use Rattle.sheet.specs.Accepted.{Accepted}
@@ -31,7 +31,7 @@ use Rattle.meaning.proofs.Ships.{by, never, answer-by}
 use Rattle.demands.specs.Pruning.{sheet_ban, sheet_lost, sheet_ring, sheet_one, sheet_none, OwnCase, NotBoth}
 
 all-accepted : Accepted sheet_ban × Accepted sheet_lost × Accepted sheet_ring × Accepted sheet_one × Accepted sheet_none
-unfolding sheet_ban sheet_lost sheet_ring sheet_one sheet_none verdict rows_verdict sheet_fault header_fault max_edges node_fault_at node_fault row_order edge_fault_at edge_shape edge_rest edge_fit refuse ◌then◌ first_row ◌orElse◌ ◌when◌otherwise◌ header_of node_at edge_at edge_place edge_words
+unfolding sheet_ban sheet_lost sheet_ring sheet_one sheet_none verdict rows_verdict sheet_fault header_fault max_edges node_fault_at node_fault row_order edge_fault_at edge_shape edge_rest edge_fit refuse ◌then◌ first_row ◌or_else◌ ◌when◌otherwise◌ header_of node_at edge_at edge_place edge_words
 all-accepted = (accepted 1 sheet_ban refl, accepted 1 sheet_lost refl, accepted 1 sheet_ring refl, accepted 1 sheet_one refl, accepted 1 sheet_none refl)
 
 -- a row that goes leaves the marks at every other key

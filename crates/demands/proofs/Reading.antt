@@ -9,7 +9,7 @@ use native.Mathlib.Omega.{arith}
 use lib.ListN.{length, take}
 use lib.Seq.{take_at}
 use Rattle.sheet.specs.declared.Refusal.{Refusal}
-use Rattle.sheet.specs.Refusals.{refuse, ◌orElse◌}
+use Rattle.sheet.specs.Refusals.{refuse, ◌or_else◌}
 use Rattle.sheet.specs.Rows.{header_of}
 use Rattle.sheet.specs.Named.{seen_at}
 use Rattle.tables.specs.Office.{View}

@@ -10,7 +10,7 @@ use Rattle.sheet.specs.declared.Half.{Half}
 use Rattle.sheet.specs.declared.Refusal.{Refusal}
 use Rattle.sheet.specs.Parts.{Part}
 use Rattle.sheet.specs.Limits.{max_nodes, max_edges, sheet_words, max_bytes}
-use Rattle.sheet.specs.Refusals.{none, ◌orElse◌, ◌then◌, short, Writes}
+use Rattle.sheet.specs.Refusals.{none, ◌or_else◌, ◌then◌, short, Writes}
 use Rattle.sheet.specs.Rows.{header_of, node_key_at}
 use Rattle.sheet.specs.Verdict.{verdict}
 use Rattle.sheet.specs.Accepted.{Accepted}

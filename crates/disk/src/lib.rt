@@ -1,4 +1,5 @@
 // A file's bytes, for the programs. What a file system answers is beyond any statement: whoever is handed the bytes takes any.
+#![tactic(auto)]
 ghost use Rattle.io.specs.Counts.{IsPrefixLen};
 
 // The bytes of a file at the front of the buffer, as many as it holds: none where the file can't be opened, or not read to its end.

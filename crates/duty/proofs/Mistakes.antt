@@ -6,7 +6,7 @@ use mathlib.Core.Path.{◌≡◌, refl}
 use mathlib.Core.List.{List, [], ◌∷◌}
 use Rattle.tables.specs.Table.{rows_of}
 use Rattle.tables.specs.Office.{some_of, holds, held_by}
-use Rattle.sheet.specs.Refusals.{◌when◌otherwise◌, ◌orElse◌, refuse, ◌then◌, first_row}
+use Rattle.sheet.specs.Refusals.{◌when◌otherwise◌, ◌or_else◌, refuse, ◌then◌, first_row}
 use Rattle.sheet.specs.Limits.{max_edges, edge_words, edge_place}
 use Rattle.sheet.specs.Rows.{header_of, node_at, edge_at}
 use Rattle.sheet.specs.Verdict.{header_fault, sheet_fault, node_fault, row_order, edge_shape, edge_fit, node_fault_at, edge_rest, edge_fault_at, rows_verdict, verdict}
@@ -27,7 +27,7 @@ office1_first (suc zero) = 1 ∷ []
 office1_first (suc (suc n)) = 1 ∷ 2 ∷ []
 
 ships-accepted : Accepted sheet_j
-unfolding sheet_j verdict rows_verdict sheet_fault header_fault max_edges node_fault_at node_fault row_order edge_fault_at edge_shape edge_rest edge_fit refuse ◌then◌ first_row ◌orElse◌ ◌when◌otherwise◌ header_of node_at edge_at edge_place edge_words
+unfolding sheet_j verdict rows_verdict sheet_fault header_fault max_edges node_fault_at node_fault row_order edge_fault_at edge_shape edge_rest edge_fit refuse ◌then◌ first_row ◌or_else◌ ◌when◌otherwise◌ header_of node_at edge_at edge_place edge_words
 ships-accepted = accepted 1 sheet_j refl
 
 -- 11's path for 31 on 42, by which office 1 bans and office 2 grants

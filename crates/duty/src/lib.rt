@@ -1,4 +1,5 @@
 // The duty desk: a row put to a lent table of emergencies, and a whole trace, over a sheet that has an office 2.
+#![tactic(auto)]
 ghost use Rattle.std.specs.Prelude.{◌≡◌, ◌+◌, ◌≤◌, [], length};
 ghost use Rattle.sheet.specs.Accepted.{WellFormed};
 ghost use Rattle.sheet.specs.Named.{seen_at};

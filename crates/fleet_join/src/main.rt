@@ -1,4 +1,5 @@
 // The joining program: joins `first.sheet` and `second.sheet` of the working folder into `joint.sheet`, and says what was joined or refused.
+#![tactic(auto)]
 use files::MAX_BYTES;
 use join::Joined;
 use libc::STDOUT_FILENO;

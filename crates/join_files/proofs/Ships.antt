@@ -6,7 +6,7 @@ use mathlib.Core.List.{List, [], ◌∷◌, ◌++◌}
 use native.Mathlib.Omega.{arith}
 use lib.ListN.{length, drop}
 use Rattle.sheet.specs.declared.Refusal.{Refusal}
-use Rattle.sheet.specs.Refusals.{◌when◌otherwise◌, ◌orElse◌, none, refuse, ◌then◌, first_row}
+use Rattle.sheet.specs.Refusals.{◌when◌otherwise◌, ◌or_else◌, none, refuse, ◌then◌, first_row}
 use Rattle.sheet.specs.Limits.{max_edges, edge_words, edge_place, sheet_words}
 use Rattle.sheet.specs.Rows.{header_of, node_at, edge_at}
 use Rattle.sheet.specs.Named.{edge_row}
@@ -36,7 +36,7 @@ lines = refl
 
 -- the two files are not refused, and hold the sheets' words
 files : (bytes_verdict 1 (bytes_of sheet_a) ≡ none) × (bytes_verdict 2 (bytes_of sheet_b) ≡ none) × (words_of (bytes_of sheet_a) ≡ sheet_a) × (words_of (bytes_of sheet_b) ≡ sheet_b)
-unfolding sheet_a sheet_b words_of bytes_of bytes_fault bytes_verdict verdict rows_verdict sheet_fault header_fault max_edges node_fault_at node_fault row_order edge_fault_at edge_shape edge_rest edge_fit refuse ◌then◌ first_row ◌orElse◌ ◌when◌otherwise◌ header_of node_at edge_at edge_place edge_words
+unfolding sheet_a sheet_b words_of bytes_of bytes_fault bytes_verdict verdict rows_verdict sheet_fault header_fault max_edges node_fault_at node_fault row_order edge_fault_at edge_shape edge_rest edge_fit refuse ◌then◌ first_row ◌or_else◌ ◌when◌otherwise◌ header_of node_at edge_at edge_place edge_words
 files = (refl, refl, refl, refl)
 
 -- the counts add up, and the joint file has 280 bytes
@@ -46,7 +46,7 @@ counts-add-up = (refl, refl, refl)
 
 -- the union is 70 words, and nothing refuses the join where there is room
 union : (sheet_words (header_of sheet_a).form (union_nodes sheet_a sheet_b) (union_edges sheet_a sheet_b) ≡ 70) × ((join_fault sheet_a sheet_b 10246).number ≡ 0)
-unfolding sheet_a sheet_b verdict rows_verdict sheet_fault header_fault max_edges node_fault_at node_fault row_order edge_fault_at edge_shape edge_rest edge_fit refuse ◌then◌ first_row ◌orElse◌ ◌when◌otherwise◌ header_of node_at edge_at edge_place edge_words edge_row how_many some_row has shared shared_nodes shared_edges union_nodes union_edges not_one too_much sheets_fault union_fault join_fault
+unfolding sheet_a sheet_b verdict rows_verdict sheet_fault header_fault max_edges node_fault_at node_fault row_order edge_fault_at edge_shape edge_rest edge_fit refuse ◌then◌ first_row ◌or_else◌ ◌when◌otherwise◌ header_of node_at edge_at edge_place edge_words edge_row how_many some_row has shared shared_nodes shared_edges union_nodes union_edges not_one too_much sheets_fault union_fault join_fault
 union = (refl, refl)
 
 passes : (room : ℕ) → 280 ≤ room → (files_fault (bytes_of sheet_a) (bytes_of sheet_b) room).number ≡ 0

@@ -1,4 +1,5 @@
 // Joining two files: the joint sheet's bytes, and the lines that say what was joined or refused. The joining program adds the files.
+#![tactic(auto)]
 ghost use Rattle.std.specs.Prelude.{◌≡◌, ◌/◌, ◌≤◌, length, take};
 ghost use Rattle.sheet.specs.Limits.{max_bytes};
 ghost use Rattle.files.specs.Bytes.{words_of};

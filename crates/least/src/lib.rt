@@ -1,4 +1,5 @@
 // Questions 8 and 9 at an office: the least triple that is Both, and the least person and folio with two deeds.
+#![tactic(auto)]
 ghost use Rattle.std.specs.Prelude.{◌≡◌, true, false, ◌&&◌, not, ◌<◌, ◌≤◌, length, [], ◌∷◌};
 ghost use Rattle.tables.specs.Count.{number_of};
 ghost use Rattle.sheet.specs.Limits.{max_nodes, most_edges};

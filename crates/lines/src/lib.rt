@@ -1,4 +1,5 @@
 // One line of a listing: what it says, and how it is written.
+#![tactic(auto)]
 ghost use Rattle.std.specs.Prelude.{◌≡◌, [], ◌∷◌, true, false, ◌&&◌, ◌||◌, not, ◌+◌, ◌-◌, ◌*◌, ◌%◌, ◌≤◌, ◌<◌, min, length, drop, get_or};
 ghost use Rattle.text.specs.Growing.{Grows};
 ghost use Rattle.sheet.specs.Refusals.{◌is◌, ◌below◌};

@@ -14,7 +14,7 @@ use Rattle.tables.proofs.Counts.{many-not, some-none}
 use Rattle.tables.proofs.Keys.{same-eq}
 use Rattle.sheet.specs.declared.Refusal.{Refusal}
 use Rattle.sheet.specs.Limits.{max_nodes, max_edges}
-use Rattle.sheet.specs.Refusals.{none, refuse, first_row, ◌orElse◌}
+use Rattle.sheet.specs.Refusals.{none, refuse, first_row, ◌or_else◌}
 use Rattle.sheet.proofs.Refusing.{refuse-some, refuse-none, then-some-is, then-none-is, else-good, else-none, else-some, line-good, line-none, rows_none, taken, left}
 use Rattle.sheet.proofs.Writing.{gives-refused, gives_as}
 use Rattle.lines.specs.declared.Line.{Line}

@@ -4,7 +4,7 @@ use Rattle.std.specs.Prelude.{ℕ, Bool, not, ◌&&◌, ◌||◌, List, length}
 use Rattle.tables.specs.Count.{how_many, some_row}
 use Rattle.sheet.specs.declared.Refusal.{Refusal}
 use Rattle.sheet.specs.Limits.{max_nodes, max_edges}
-use Rattle.sheet.specs.Refusals.{◌below◌, ◌when◌otherwise◌, ◌orElse◌, none, refuse, ◌then◌, first_row}
+use Rattle.sheet.specs.Refusals.{◌below◌, ◌when◌otherwise◌, ◌or_else◌, none, refuse, ◌then◌, first_row}
 use Rattle.lines.specs.declared.Line.{Line}
 use Rattle.lines.specs.Naming.{is_node_line, from_line, to_line, within_itself, same_line}
 use Rattle.listing.specs.Cut.{lines_said, line_at}

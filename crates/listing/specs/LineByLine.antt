@@ -1,7 +1,7 @@
 -- How a text is read line by line: what the inner functions give.
 -- Assumes nothing.
 use Rattle.std.specs.Prelude.{ℕ, ◌*◌, ◌<◌, ◌≤◌, ◌≡◌, Bool, not, ◌&&◌, List, ◌∷◌, length, drop}
-use Rattle.sheet.specs.Refusals.{◌when◌otherwise◌, ◌orElse◌}
+use Rattle.sheet.specs.Refusals.{◌when◌otherwise◌, ◌or_else◌}
 use Rattle.lines.specs.declared.Line.{Line}
 use Rattle.lines.specs.Naming.{is_node_line, from_line, to_line, within_itself, line_key}
 use Rattle.sorting.specs.Sorted.{most_sorted, four_at, Sorted}

@@ -1,4 +1,5 @@
 // A listing: the rows of a one-office sheet as lines that people can type. Reading a text, and writing a sheet.
+#![tactic(auto)]
 mod writing;
 
 ghost use Rattle.std.specs.Prelude.{◌≡◌, ◌+◌, ◌-◌, ◌*◌, ◌<◌, ◌≤◌, length};

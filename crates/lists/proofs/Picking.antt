@@ -14,7 +14,7 @@ use Rattle.sheet.specs.declared.Header.{Header}
 use Rattle.sheet.specs.declared.Node.{Node}
 use Rattle.sheet.specs.declared.Place.{Place}
 use Rattle.sheet.specs.declared.Seat.{Seat}
-use Rattle.sheet.specs.Refusals.{◌when◌otherwise◌, ◌orElse◌}
+use Rattle.sheet.specs.Refusals.{◌when◌otherwise◌, ◌or_else◌}
 use Rattle.sheet.specs.Rows.{header_of, node_at}
 use Rattle.paths.proofs.Tests.{and_left, and_right, both}
 use Rattle.meaning.specs.Forms.{Rising}
@@ -58,12 +58,12 @@ known_by s h office class number p e x = x.told ∙ ap (λ (y : Header). some_ro
 
 pub fault-after : (number : ℕ) (s : List ℕ) (q : Question) (h : Header) → h ≡ header_of s → bad_office h q.office ≡ 0
     → sought_fault number s q ≡ (unknown_category s q when eqb number 5 otherwise unknown_right s q when eqb number 6 otherwise bad_pair s q when eqb number 9 otherwise 0)
-unfolding sought_fault ◌orElse◌
+unfolding sought_fault ◌or_else◌
 fault-after number s q h e z = let y : bad_office (header_of s) q.office ≡ 0 = rw e at z in rw y refl
 
 -- 20 comes first
 else-first : (k m : ℕ) → (k ≡ 0 → ⊥) → k or_else m ≡ k
-unfolding ◌orElse◌
+unfolding ◌or_else◌
 else-first zero m h = absurd (h refl)
 else-first (suc k) m h = refl
 
@@ -74,12 +74,12 @@ sought-office number s q h n e b z = let d = rw e at b in d ∙ sym (else-first 
 -- ---- what is found, by the question's number
 
 or-none : (k : ℕ) → k or_else 0 ≡ k
-unfolding ◌orElse◌
+unfolding ◌or_else◌
 or-none zero = refl
 or-none (suc k) = refl
 
 else-zero : (k m : ℕ) → k or_else m ≡ 0 → m ≡ 0
-unfolding ◌orElse◌
+unfolding ◌or_else◌
 else-zero zero m e = e
 else-zero (suc k) m e = absurd (omega (arith, e))
 

@@ -1,7 +1,7 @@
 -- What questions 5 to 10 promise, each in one relation: of the sheet's words, what is asked, the lent output before, the answer, and the output after.
 -- Assumes nothing.
 use Rattle.std.specs.Prelude.{ℕ, List}
-use Rattle.sheet.specs.Refusals.{◌orElse◌}
+use Rattle.sheet.specs.Refusals.{◌or_else◌}
 use Rattle.sheet.specs.Rows.{header_of}
 use Rattle.meaning.specs.Questions.{PersonsInCategoryAre, PersonsWithGrantAre, FoliosOutOfReachAre, LeastTripleIs, LeastHolderIs, RedundantEdgesAre}
 use Rattle.question.specs.declared.Question.{Question}

@@ -2,7 +2,7 @@
 -- Assumes nothing.
 use Rattle.std.specs.Prelude.{ℕ, Bool, true, false, not, List}
 use Rattle.sheet.specs.Kinds.{category_type, deed_type, folio_type}
-use Rattle.sheet.specs.Refusals.{◌is◌, ◌when◌otherwise◌, ◌orElse◌}
+use Rattle.sheet.specs.Refusals.{◌is◌, ◌when◌otherwise◌, ◌or_else◌}
 use Rattle.sheet.specs.Rows.{header_of}
 use Rattle.meaning.specs.Questions.{PersonsInCategoryAre, PersonsWithGrantAre, FoliosOutOfReachAre, LeastTripleIs, LeastHolderIs, RedundantEdgesAre}
 use Rattle.question.specs.declared.Question.{Question}

@@ -1,4 +1,5 @@
 // The opened sheet: the caller's words held in a struct, and asked many questions. Each question checks the words again.
+#![tactic(auto)]
 ghost use Rattle.std.specs.Prelude.{◌≡◌};
 ghost use Rattle.sheet.specs.Rows.{word, header_of};
 ghost use Rattle.claim.specs.Promises.{TellsPath};

@@ -11,7 +11,7 @@ use Rattle.sheet.specs.declared.Header.{Header}
 use Rattle.sheet.specs.declared.Seat.{Seat}
 use Rattle.sheet.specs.declared.Place.{Place}
 use Rattle.sheet.specs.Found.{PlaceIs}
-use Rattle.sheet.specs.Refusals.{◌is◌, ◌below◌, ◌when◌otherwise◌, ◌orElse◌, none, refuse, ◌then◌}
+use Rattle.sheet.specs.Refusals.{◌is◌, ◌below◌, ◌when◌otherwise◌, ◌or_else◌, none, refuse, ◌then◌}
 use Rattle.sheet.specs.Rows.{header_of, node_at, node_key_at}
 use Rattle.sheet.specs.Seats.{seat_at, seen_from}
 use Rattle.sheet.specs.Verdict.{verdict}

@@ -1,4 +1,5 @@
 // What a question is, what it is refused by for its office and identities, and what every reply is made of.
+#![tactic(auto)]
 ghost use Rattle.std.specs.Prelude.{◌≡◌, ◌&&◌, ◌||◌, ◌^◌, ◌<◌, ◌≤◌};
 ghost use Rattle.sheet.specs.Limits.{max_offices};
 ghost use Rattle.sheet.specs.Refusals.{◌is◌};

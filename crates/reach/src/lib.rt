@@ -1,4 +1,5 @@
 // What a walk reaches from a row, as numbers and in identities, and how what is found is collected in a list.
+#![tactic(auto)]
 ghost use Rattle.std.specs.Prelude.{◌<◌, ◌≤◌, length};
 ghost use Rattle.sheet.specs.Accepted.{WellFormed};
 ghost use Rattle.sheet.specs.Seats.{Seated};

@@ -1,4 +1,5 @@
 // A text that grows: bytes, or a label and a number in decimal, behind what is there already.
+#![tactic(auto)]
 ghost use Rattle.std.specs.Prelude.{◌++◌, ◌+◌, ◌≤◌, length};
 ghost use Rattle.text.specs.Growing.{labelled, Grows};
 

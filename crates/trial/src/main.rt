@@ -1,5 +1,6 @@
 // Puts any input to every public function, for a program outside: requests on standard input, a reply to each on standard output.
 // The trial program's page in docs/TRIAL.md has the form of both.
+#![tactic(auto)]
 ghost use Rattle.std.specs.Prelude.{◌≡◌, ◌+◌, ◌*◌, ◌^◌, ◌<◌, ◌≤◌, length, replicate};
 
 use duty::TraceReply;

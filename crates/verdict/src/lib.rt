@@ -1,8 +1,9 @@
 // The check: refusals 1 to 17 of any words, with their place.
+#![tactic(auto)]
 ghost use Rattle.std.specs.Prelude.{◌≡◌, ◌<◌, ◌≤◌, length};
 ghost use Rattle.tables.specs.Marks.{marks_fit, within};
 ghost use Rattle.sheet.specs.Limits.{max_offices};
-ghost use Rattle.sheet.specs.Refusals.{◌orElse◌, first_row};
+ghost use Rattle.sheet.specs.Refusals.{◌or_else◌, first_row};
 ghost use Rattle.sheet.specs.Rows.{ends_fit, count_in, row_key};
 ghost use Rattle.sheet.specs.Verdict.{header_fault, sheet_fault, node_fault, row_order, node_fault_at, edge_shape, edge_fit, edge_rest, edge_fault_at, edge_fault, row_fault, rows_verdict, verdict};
 ghost use Rattle.verdict.specs.Each.{fault_at};

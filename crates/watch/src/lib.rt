@@ -1,4 +1,5 @@
 // The duty desk's watch: the emergencies that a history of rows holds, and the table that keeps them, advanced one row at a time.
+#![tactic(auto)]
 ghost use Rattle.std.specs.Prelude.{◌≡◌, ◌+◌, ◌^◌, ◌<◌, ◌≤◌, [], drop, length};
 ghost use Rattle.watch.specs.History.{changed, some, spare_word, bad_row, offices_for};
 ghost use Rattle.watch.specs.WatchTable.{covers_minute, names_folio, place_held, turned_by, place_after, free_place, doubled, empty_place, refused_row, taken_row, started_row, entered, advanced, empty_watch};

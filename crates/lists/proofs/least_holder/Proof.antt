@@ -1,7 +1,7 @@
 -- `lists::least_holder` meets its contract: it is question 9 of `sought`.
 -- Assumes nothing.
 use Rattle.lists.specs.Sought.{sought_fault, sought_is}
-use Rattle.sheet.specs.Refusals.{◌when◌otherwise◌, ◌orElse◌}
+use Rattle.sheet.specs.Refusals.{◌when◌otherwise◌, ◌or_else◌}
 use borrow.Author.Rules.{rules}
 use Rattle.lists.proofs.least_holder.Statement.{statement}
 use Rattle.lists.proofs.least_holder.Tie as tie
@@ -13,7 +13,7 @@ same_length : tie.Need-same-length
 same_length c = search rules
 
 returns : tie.Need-returns
-unfolding sought_fault sought_is ◌when◌otherwise◌ ◌orElse◌
+unfolding sought_fault sought_is ◌when◌otherwise◌ ◌or_else◌
 returns c = c.before.before.sought.ensures
 
 pub least-holder-spec : {M : Type 1} → statement M
