@@ -170,12 +170,20 @@ module _ (R : ℕ → ℕ → Type 0) (T : ℕ → Type 0) (limit : ℕ) (d : Li
             }
 
 -- ---- the contracts determine what they speak of: two best trails are one, two traces are, and two numberings are
+-- stated at two pairs of lists, as both orders share their elements
+before-both-at : {l l' m m' : List ℕ} → Before l l' → Before m' m → l ≡ m → l' ≡ m' → l ≡ l'
+before-both-at none none e e' = sym e'
+before-both-at none (less h) e e' = absurd cc
+before-both-at none (same b') e e' = absurd cc
+before-both-at (less h) none e e' = absurd cc
+before-both-at (same b) none e e' = absurd cc
+before-both-at (less {a = a} {b = b} h) (less {a = c} {b = d} h') e e' = let p : a ≡ d = cc in let q : b ≡ c = cc in absurd (omega arith)
+before-both-at (less {a = a} {b = b} h) (same {a = c} b') e e' = let p : a ≡ c = cc in let q : b ≡ c = cc in absurd (omega arith)
+before-both-at (same {a = a} b) (less {a = c} {b = d} h') e e' = let p : a ≡ d = cc in let q : a ≡ c = cc in absurd (omega arith)
+before-both-at (same {a = a} {l = l} {l' = l'} b) (same {a = c} {l = n'} {l' = n} b') e e' = let p : l ≡ n = cc in let q : l' ≡ n' = cc in ap (λ (x : List ℕ). a ∷ x) (before-both-at b b' p q)
+
 pub before-both : {l l' : List ℕ} → Before l l' → Before l' l → l ≡ l'
-before-both none none = refl
-before-both (less h) (less h') = absurd (omega arith)
-before-both (less h) (same b') = absurd (omega arith)
-before-both (same b) (less h') = absurd (omega arith)
-before-both (same {a = a} b) (same b') = ap (λ (x : List ℕ). a ∷ x) (before-both b b')
+before-both b b' = before-both-at b b' refl refl
 
 pub best-one-only : {R : ℕ → ℕ → Type 0} {T : ℕ → Type 0} {a : ℕ} {l l' : List ℕ} → Best R T a l → Best R T a l' → l ≡ l'
 best-one-only {l = l} {l' = l'} b b' =
