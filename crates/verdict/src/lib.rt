@@ -1,5 +1,6 @@
 // The check: refusals 1 to 17 of any words, with their place.
 #![tactic(auto)]
+
 ghost use Rattle.std.specs.Prelude.{◌≡◌, ◌<◌, ◌≤◌, length};
 ghost use Rattle.tables.specs.Marks.{marks_fit, within};
 ghost use Rattle.sheet.specs.Limits.{max_offices};
