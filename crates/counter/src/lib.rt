@@ -35,8 +35,7 @@ use watch::Watch;
 const PATH_WORDS: usize = 2 * (sheet::MAX_NODES as usize + 3);
 
 // The words of a file's bytes, at the front of the words lent: 33 where it is no sheet's file, 25 where they don't fit.
-#[unsafe(no_mangle)]
-pub extern "C" fn tormukai_words_of_file(file: &[u8], out: &mut [u32]) -> Refusal
+pub fn tormukai_words_of_file(file: &[u8], out: &mut [u32]) -> Refusal
     ensures { Writes (refuse (bytes_fault (length file.now)) 1 0 none) (words_of file.now) out.old result out.new }
 {
     let k = files::bytes_fault(file.len());
@@ -59,8 +58,7 @@ fn read(file: &[u8], words: &mut [u32]) -> Refusal
 }
 
 // Question 1 of a file's bytes, the answer at an office: 0 Undetermined, 1 Granted, 2 Banned, 3 Both, in `value`.
-#[unsafe(no_mangle)]
-pub extern "C" fn tormukai_answer(
+pub fn tormukai_answer(
     file: &[u8],
     office: u32,
     person: u32,
@@ -89,8 +87,7 @@ pub extern "C" fn tormukai_answer(
 }
 
 // Question 2 of a file's bytes, the joint answer under rule 1, 2 or 3: the answer in `value`, the deciding office in `count`.
-#[unsafe(no_mangle)]
-pub extern "C" fn tormukai_joint_answer(
+pub fn tormukai_joint_answer(
     file: &[u8],
     rule: u32,
     person: u32,
@@ -136,8 +133,7 @@ fn witness_bytes(sheet: &[u32], q: Question, out: &mut [u8]) -> Answer
 }
 
 // Question 3 of a file's bytes, the witness of a grant (kind 0) or a ban (any other), in bytes, low byte first; how many in `count`.
-#[unsafe(no_mangle)]
-pub extern "C" fn tormukai_witness(
+pub fn tormukai_witness(
     file: &[u8],
     office: u32,
     kind: u32,
@@ -168,32 +164,28 @@ pub extern "C" fn tormukai_witness(
 }
 
 // The bytes of words, as they stand in a file, at the front of the bytes lent: 25 where they don't fit.
-#[unsafe(no_mangle)]
-pub extern "C" fn tormukai_file_of_words(sheet: &[u32], out: &mut [u8]) -> Refusal
+pub fn tormukai_file_of_words(sheet: &[u32], out: &mut [u8]) -> Refusal
     ensures { Writes none (bytes_of sheet.now) out.old result out.new }
 {
     files::encode(sheet, out)
 }
 
 // The verdict on a file's bytes: 33, then 1 to 17 of its words, or none.
-#[unsafe(no_mangle)]
-pub extern "C" fn tormukai_check_file(file: &[u8]) -> Refusal
+pub fn tormukai_check_file(file: &[u8]) -> Refusal
     ensures { result ≡ bytes_verdict 1 file.now }
 {
     files::check_bytes(file)
 }
 
 // The verdict on a sheet's words: 1 to 17, or none.
-#[unsafe(no_mangle)]
-pub extern "C" fn tormukai_check(sheet: &[u32]) -> Refusal
+pub fn tormukai_check(sheet: &[u32]) -> Refusal
     ensures { result ≡ verdict 1 sheet.now }
 {
     verdict::check(sheet)
 }
 
 // Question 1 of words, the answer at an office, in `value`.
-#[unsafe(no_mangle)]
-pub extern "C" fn tormukai_sheet_answer(
+pub fn tormukai_sheet_answer(
     sheet: &[u32],
     office: u32,
     person: u32,
@@ -216,8 +208,7 @@ pub extern "C" fn tormukai_sheet_answer(
 }
 
 // Question 2 of words, the joint answer under a rule: the answer in `value`, the deciding office in `count`.
-#[unsafe(no_mangle)]
-pub extern "C" fn tormukai_sheet_joint_answer(
+pub fn tormukai_sheet_joint_answer(
     sheet: &[u32],
     rule: u32,
     person: u32,
@@ -240,8 +231,7 @@ pub extern "C" fn tormukai_sheet_joint_answer(
 }
 
 // Question 3 of words, the witness of a grant (kind 0) or a ban (any other), two words a node; how many words in `count`.
-#[unsafe(no_mangle)]
-pub extern "C" fn tormukai_sheet_witness(
+pub fn tormukai_sheet_witness(
     sheet: &[u32],
     office: u32,
     kind: u32,
@@ -266,8 +256,7 @@ pub extern "C" fn tormukai_sheet_witness(
 }
 
 // Question 4, whether a list of words is some grant (kind 0) or ban path: 1 yes, 0 no, in `value`.
-#[unsafe(no_mangle)]
-pub extern "C" fn tormukai_is_path(
+pub fn tormukai_is_path(
     sheet: &[u32],
     office: u32,
     kind: u32,
@@ -292,8 +281,7 @@ pub extern "C" fn tormukai_is_path(
 }
 
 // Question 5, the numbers of the persons in a category, rising; how many in `count`.
-#[unsafe(no_mangle)]
-pub extern "C" fn tormukai_persons_in_category(
+pub fn tormukai_persons_in_category(
     sheet: &[u32],
     office: u32,
     category: u32,
@@ -315,8 +303,7 @@ pub extern "C" fn tormukai_persons_in_category(
 }
 
 // Question 6, the numbers of the persons with a grant path for a deed and folio, rising; how many in `count`.
-#[unsafe(no_mangle)]
-pub extern "C" fn tormukai_persons_with_grant(
+pub fn tormukai_persons_with_grant(
     sheet: &[u32],
     office: u32,
     deed: u32,
@@ -339,8 +326,7 @@ pub extern "C" fn tormukai_persons_with_grant(
 }
 
 // Question 7, the numbers of the folios to which no person has a grant path, rising; how many in `count`.
-#[unsafe(no_mangle)]
-pub extern "C" fn tormukai_folios_out_of_reach(
+pub fn tormukai_folios_out_of_reach(
     sheet: &[u32],
     office: u32,
     out: &mut [u32],
@@ -361,8 +347,7 @@ pub extern "C" fn tormukai_folios_out_of_reach(
 }
 
 // Question 8, the least person, deed and folio that are Both: three words.
-#[unsafe(no_mangle)]
-pub extern "C" fn tormukai_least_triple(sheet: &[u32], office: u32, out: &mut [u32]) -> Answer
+pub fn tormukai_least_triple(sheet: &[u32], office: u32, out: &mut [u32]) -> Answer
     ensures { ShowsLeastTriple sheet.now (seeking office 0 0 0 0) out.old result out.new }
 {
     let q = Question {
@@ -379,8 +364,7 @@ pub extern "C" fn tormukai_least_triple(sheet: &[u32], office: u32, out: &mut [u
 }
 
 // Question 9, the least person and folio with a grant path for each of two deeds: two words.
-#[unsafe(no_mangle)]
-pub extern "C" fn tormukai_least_holder(
+pub fn tormukai_least_holder(
     sheet: &[u32],
     office: u32,
     deed: u32,
@@ -403,8 +387,7 @@ pub extern "C" fn tormukai_least_holder(
 }
 
 // Question 10, the redundant edge rows, rising; how many in `count`.
-#[unsafe(no_mangle)]
-pub extern "C" fn tormukai_redundant_edges(sheet: &[u32], office: u32, out: &mut [u32]) -> Answer
+pub fn tormukai_redundant_edges(sheet: &[u32], office: u32, out: &mut [u32]) -> Answer
     ensures { ListsRedundantEdges sheet.now (seeking office 0 0 0 0) out.old result out.new }
 {
     let q = Question {
@@ -421,32 +404,28 @@ pub extern "C" fn tormukai_redundant_edges(sheet: &[u32], office: u32, out: &mut
 }
 
 // Joins two one-office sheets into one of two offices.
-#[unsafe(no_mangle)]
-pub extern "C" fn tormukai_join(first: &[u32], second: &[u32], out: &mut [u32]) -> Joined
+pub fn tormukai_join(first: &[u32], second: &[u32], out: &mut [u32]) -> Joined
     ensures { Joining first.now second.now out.old result out.new }
 {
     join::join(first, second, out)
 }
 
 // Joins the files of two one-office sheets into the file of their two-office sheet.
-#[unsafe(no_mangle)]
-pub extern "C" fn tormukai_join_files(first: &[u8], second: &[u8], out: &mut [u8]) -> Joined
+pub fn tormukai_join_files(first: &[u8], second: &[u8], out: &mut [u8]) -> Joined
     ensures { JoinsFiles first.now second.now out.old result out.new }
 {
     join_files::join_files(first, second, out)
 }
 
 // Takes one office's sheet out of a sheet; how many words in `count`.
-#[unsafe(no_mangle)]
-pub extern "C" fn tormukai_take_out(sheet: &[u32], office: u32, out: &mut [u32]) -> Answer
+pub fn tormukai_take_out(sheet: &[u32], office: u32, out: &mut [u32]) -> Answer
     ensures { TakesOut sheet.now office out.old result out.new }
 {
     takeout::take_out(sheet, office, out)
 }
 
 // Which of two sheets has an identity, first before second, in `value`, and at which node row in `count`.
-#[unsafe(no_mangle)]
-pub extern "C" fn tormukai_look_up(
+pub fn tormukai_look_up(
     first: &[u32],
     second: &[u32],
     class: u32,
@@ -459,8 +438,7 @@ pub extern "C" fn tormukai_look_up(
 }
 
 // The number and place by which looking an identity up in two sheets is refused; 0 throughout where it is found.
-#[unsafe(no_mangle)]
-pub extern "C" fn tormukai_look_up_refusal(
+pub fn tormukai_look_up_refusal(
     first: &[u32],
     second: &[u32],
     class: u32,
@@ -473,24 +451,21 @@ pub extern "C" fn tormukai_look_up_refusal(
 }
 
 // Whether a node stands in a sheet, 1 yes and 0 no in `value`, and the row at which it stands or would stand in `count`.
-#[unsafe(no_mangle)]
-pub extern "C" fn tormukai_find_node(sheet: &[u32], class: u32, number: u32, variant: u32) -> Answer
+pub fn tormukai_find_node(sheet: &[u32], class: u32, number: u32, variant: u32) -> Answer
     ensures { TellsPlace Nodes sheet.now (identity class number variant) result }
 {
     find::find_node(sheet, class, number, variant)
 }
 
 // Whether an edge stands in a sheet, its ends by node rows, and the row at which it stands or would stand.
-#[unsafe(no_mangle)]
-pub extern "C" fn tormukai_find_edge(sheet: &[u32], kind: u32, from: u32, to: u32) -> Answer
+pub fn tormukai_find_edge(sheet: &[u32], kind: u32, from: u32, to: u32) -> Answer
     ensures { TellsPlace Edges sheet.now (kind ∷ from ∷ to ∷ []) result }
 {
     find::find_edge(sheet, kind, from, to)
 }
 
 // Adds a node row to a sheet: the row at which it stands in `value`, how many words in `count`.
-#[unsafe(no_mangle)]
-pub extern "C" fn tormukai_add_node(
+pub fn tormukai_add_node(
     sheet: &[u32],
     class: u32,
     number: u32,
@@ -510,8 +485,7 @@ pub extern "C" fn tormukai_add_node(
 }
 
 // Adds an edge row to a sheet, its ends by node rows of that sheet.
-#[unsafe(no_mangle)]
-pub extern "C" fn tormukai_add_edge(
+pub fn tormukai_add_edge(
     sheet: &[u32],
     kind: u32,
     from: u32,
@@ -531,32 +505,28 @@ pub extern "C" fn tormukai_add_edge(
 }
 
 // What one line of a listing says, without its line feed.
-#[unsafe(no_mangle)]
-pub extern "C" fn tormukai_read_line(line: &[u8]) -> Line
+pub fn tormukai_read_line(line: &[u8]) -> Line
     ensures { result ≡ said line.now }
 {
     lines::read_line(line)
 }
 
 // Reads a text as a listing into a one-office sheet: how many words in `count`. A line is told by its number, from 0, in `row`.
-#[unsafe(no_mangle)]
-pub extern "C" fn tormukai_read_listing(text: &[u8], out: &mut [u32]) -> Listing
+pub fn tormukai_read_listing(text: &[u8], out: &mut [u32]) -> Listing
     ensures { ReadsListing text.now out.old result out.new }
 {
     listing::read_listing(text, out)
 }
 
 // Writes a one-office sheet as a listing: how many bytes in `count`.
-#[unsafe(no_mangle)]
-pub extern "C" fn tormukai_write_listing(sheet: &[u32], out: &mut [u8]) -> Listing
+pub fn tormukai_write_listing(sheet: &[u32], out: &mut [u8]) -> Listing
     ensures { WritesListing sheet.now out.old result out.new }
 {
     listing::write_listing(sheet, out)
 }
 
 // Puts a row of a trace to the duty desk's table: the answer in `value`, and in `count` how many offices its question went to. A refused row leaves the table as it was.
-#[unsafe(no_mangle)]
-pub extern "C" fn tormukai_step(
+pub fn tormukai_step(
     watch: &mut Watch,
     sheet: &[u32],
     timeout: u32,
@@ -570,8 +540,7 @@ pub extern "C" fn tormukai_step(
 }
 
 // A whole trace of the duty desk, with its own empty table: one answer for each question; how many in `count`.
-#[unsafe(no_mangle)]
-pub extern "C" fn tormukai_trace(
+pub fn tormukai_trace(
     sheet: &[u32],
     timeout: u32,
     rows: &[u32],
