@@ -53,7 +53,7 @@ module _ (g h : View) (k : Key) (B : LacksAtMost g k h) (kind : ℕ) (rest : Key
   -- ---- relations of another kind stay
 
   stays : (other : ℕ) (a b : Key) → (kind ≡ other → ⊥) → g.edge (relation other a b) ≡ true → h.edge (relation other a b) ≡ true
-  stays other a b n e = B.All-others _ (λ z. n (cc)) e
+  stays other a b n e = B.all_others _ (λ z. n (cc)) e
 
   steps-stay : (kind ≡ contained_kind → ⊥) → (side : Side) (a b : ℕ) → step g side a b ≡ true → Reach (step h side) a b
   steps-stay n grant a b e = more (stays contained_kind (category a) (category b) n e) here
@@ -77,7 +77,7 @@ module _ (g h : View) (k : Key) (B : LacksAtMost g k h) where
 
   module _ (p a : ℕ) (is : k ≡ relation member_kind (person p) (category a)) where
     member-by : (side : Side) → ((x d v : ℕ) → right g side x d v ≡ true → AlsoMember g side p a) → (q c x d v : ℕ) → member g q c ≡ true → right g side x d v ≡ true → (c' : ℕ) × (member h q c' ≡ true) × Reach (step h side) c' c
-    member-by side also q c x d v e r = same_or (relation member_kind (person q) (category c)) k _ gone (λ n. (c, B.All-others _ n e, here))
+    member-by side also q c x d v e r = same_or (relation member_kind (person q) (category c)) k _ gone (λ n. (c, B.all_others _ n e, here))
       where
         A : AlsoMember g side p a
         A = also x d v r
@@ -87,7 +87,7 @@ module _ (g h : View) (k : Key) (B : LacksAtMost g k h) where
             let q-is : p ≡ q = cc in
             let c-is : a ≡ c = cc in (
               A.c,
-              subst (λ (z : ℕ). member h z A.c ≡ true) q-is (B.All-others _ (λ z. A.another (cc)) A.member_of),
+              subst (λ (z : ℕ). member h z A.c ≡ true) q-is (B.all_others _ (λ z. A.another (cc)) A.member_of),
               subst (λ (z : ℕ). Reach (step h side) A.c z) c-is (beyond-stays g h k B _ _ is (λ z. omega arith) side A.c a A.leads-here),
             )
 
@@ -108,10 +108,10 @@ module _ (g h : View) (k : Key) (B : LacksAtMost g k h) where
 
   module _ (a b : ℕ) (is : k ≡ relation contained_kind (category a) (category b)) (cs : List ℕ) (long : 2 ≤ length cs) (way : leads (contained g) (λ c. eqb c b) a cs ≡ true) where
     past-it : Reach (contained h) a b
-    past-it = reach-map (λ x y e. more (B.All-others _ (λ z. apart_from (contained g) a b x y e (cc) (cc)) (still (contained g) a b x y e)) here) (detour-reach (contained g) a b cs long way)
+    past-it = reach-map (λ x y e. more (B.all_others _ (λ z. apart_from (contained g) a b x y e (cc) (cc)) (still (contained g) a b x y e)) here) (detour-reach (contained g) a b cs long way)
 
     contained-by : (x y : ℕ) → contained g x y ≡ true → Reach (contained h) x y
-    contained-by x y e = same_or (relation contained_kind (category x) (category y)) k _ gone (λ n. more (B.All-others _ n e) here)
+    contained-by x y e = same_or (relation contained_kind (category x) (category y)) k _ gone (λ n. more (B.all_others _ n e) here)
       where
         gone : relation contained_kind (category x) (category y) ≡ k → Reach (contained h) x y
         gone z =
@@ -136,7 +136,7 @@ module _ (g h : View) (k : Key) (B : LacksAtMost g k h) where
 
   module _ (own : Side) (a c d v : ℕ) (is : k ≡ relation (right_kind own) (category a) (deed d v)) (apart : c ≡ a → ⊥) (on : Beyond (step g own) a c) (has : right g own c d v ≡ true) where
     own-by : (x e w : ℕ) → right g own x e w ≡ true → (c' : ℕ) × (right h own c' e w ≡ true) × Reach (step h own) x c'
-    own-by x e w r = same_or (relation (right_kind own) (category x) (deed e w)) k _ gone (λ n. (x, B.All-others _ n r, here))
+    own-by x e w r = same_or (relation (right_kind own) (category x) (deed e w)) k _ gone (λ n. (x, B.all_others _ n r, here))
       where
         gone : relation (right_kind own) (category x) (deed e w) ≡ k → (c' : ℕ) × (right h own c' e w ≡ true) × Reach (step h own) x c'
         gone z =
@@ -144,7 +144,7 @@ module _ (g h : View) (k : Key) (B : LacksAtMost g k h) where
             let e-is : d ≡ e = cc in
             let w-is : v ≡ w = cc in (
               c,
-              subst (λ (u : ℕ). right h own c u w ≡ true) e-is (subst (λ (u : ℕ). right h own c d u ≡ true) w-is (B.All-others _ (λ z. apart (cc)) has)),
+              subst (λ (u : ℕ). right h own c u w ≡ true) e-is (subst (λ (u : ℕ). right h own c d u ≡ true) w-is (B.all_others _ (λ z. apart (cc)) has)),
               subst (λ (u : ℕ). Reach (step h own) u c) x-is (beyond-stays g h k B _ _ is (right-apart own).1 own a c on),
             )
 

@@ -2,7 +2,7 @@
 -- Assumes nothing.
 use mathlib.Core.Path.{◌≡◌, refl, sym, ap, ◌∙◌}
 use mathlib.Core.List.{List, [], ◌∷◌, ◌++◌, append_assoc}
-use mathlib.Core.Logic.{◌⊎◌, ⊎_elim}
+use mathlib.Core.Logic.{⊎_elim}
 use Prim.Native.Nat.{ℕ, suc, ◌+◌, ◌-◌, ◌<◌, ◌≤◌}
 use native.Mathlib.Nat.{eq-or-lt_of_le}
 use native.Mathlib.Omega.{arith}
@@ -170,20 +170,20 @@ module _ (R : ℕ → ℕ → Type 0) (T : ℕ → Type 0) (limit : ℕ) (d : Li
             }
 
 -- ---- the contracts determine what they speak of: two best trails are one, two traces are, and two numberings are
--- stated at two pairs of lists, as both orders share their elements
-before-both-at : {l l' m m' : List ℕ} → Before l l' → Before m' m → l ≡ m → l' ≡ m' → l ≡ l'
-before-both-at none none e e' = sym e'
-before-both-at none (less h) e e' = absurd cc
-before-both-at none (same b') e e' = absurd cc
-before-both-at (less h) none e e' = absurd cc
-before-both-at (same b) none e e' = absurd cc
-before-both-at (less {a = a} {b = b} h) (less {a = c} {b = d} h') e e' = let p : a ≡ d = cc in let q : b ≡ c = cc in absurd (omega arith)
-before-both-at (less {a = a} {b = b} h) (same {a = c} b') e e' = let p : a ≡ c = cc in let q : b ≡ c = cc in absurd (omega arith)
-before-both-at (same {a = a} b) (less {a = c} {b = d} h') e e' = let p : a ≡ d = cc in let q : a ≡ c = cc in absurd (omega arith)
-before-both-at (same {a = a} {l = l} {l' = l'} b) (same {a = c} {l = n'} {l' = n} b') e e' = let p : l ≡ n = cc in let q : l' ≡ n' = cc in ap (λ (x : List ℕ). a ∷ x) (before-both-at b b' p q)
+both-of : {l l' m m' : List ℕ} → Before l l' → Before m m' → m ≡ l' → m' ≡ l → l ≡ l'
+both-of none none p q = p
+both-of none (less h) p q = absurd (cc (p, q))
+both-of none (same b) p q = absurd (cc (p, q))
+both-of (less h) none p q = absurd (cc (p, q))
+both-of (less {a = a} {b = b} h) (less {a = c} {b = d} h') p q = let e : c ≡ b = cc (p, q) in let f : d ≡ a = cc (p, q) in absurd (omega arith)
+both-of (less {a = a} {b = b} h) (same {a = c} b') p q = let e : c ≡ b = cc (p, q) in let f : c ≡ a = cc (p, q) in absurd (omega arith)
+both-of (same b) none p q = absurd (cc (p, q))
+both-of (same {a = a} b) (less {a = c} {b = d} h') p q = let e : c ≡ a = cc (p, q) in let f : d ≡ a = cc (p, q) in absurd (omega arith)
+both-of (same {a = a} {l = l} {l' = l'} b) (same {a = c} {l = m} {l' = m'} b') p q =
+    let e : m ≡ l' = cc (p, q) in let f : m' ≡ l = cc (p, q) in ap (λ (x : List ℕ). a ∷ x) (both-of b b' e f)
 
 pub before-both : {l l' : List ℕ} → Before l l' → Before l' l → l ≡ l'
-before-both b b' = before-both-at b b' refl refl
+before-both b b' = both-of b b' refl refl
 
 pub best-one-only : {R : ℕ → ℕ → Type 0} {T : ℕ → Type 0} {a : ℕ} {l l' : List ℕ} → Best R T a l → Best R T a l' → l ≡ l'
 best-one-only {l = l} {l' = l'} b b' =

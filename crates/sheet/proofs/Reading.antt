@@ -13,9 +13,8 @@ use Rattle.sheet.specs.declared.Edge.{Edge}
 use Rattle.sheet.specs.declared.Half.{Half}
 use Rattle.sheet.specs.declared.Half.TheVariants.{Nodes, Edges}
 use Rattle.sheet.specs.declared.Header.{Header}
-use Rattle.sheet.specs.declared.Node.{Node}
 use Rattle.sheet.specs.Limits.{node_words, edges_from}
-use Rattle.sheet.specs.Rows.{header_of, node_at, edge_at, edge_of, edge_table, count_in, cells_at, row_key}
+use Rattle.sheet.specs.Rows.{header_of, edge_at, edge_of, edge_table, count_in, cells_at, row_key}
 use Rattle.sheet.specs.Named.{edge_row}
 use Rattle.sheet.specs.Accepted.{HalfFormed, NodesFormed, WellFormed}
 
