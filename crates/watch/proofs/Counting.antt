@@ -1,14 +1,14 @@
 -- Lists without repetition are counted by what they hold. Assumes nothing.
-use Prim.Native.Nat.{ℕ, zero, suc, ◌+◌, ◌≤◌, ◌<◌}
+use Prim.Native.Nat.{ℕ, suc, ◌≤◌}
 use mathlib.Core.Path.{◌≡◌, refl, sym, ap, ◌∙◌}
-use mathlib.Core.Bool.{Bool, true, false, cond, not, ◌&&◌, ◌||◌, false≢true, or-true}
-use mathlib.Core.List.{List, [], ◌∷◌, ◌++◌}
+use mathlib.Core.Bool.{true, false, cond, false≢true, or-true}
+use mathlib.Core.List.{List, [], ◌∷◌}
 use native.Mathlib.Omega.{arith}
 use lib.ListN.{length}
-use lib.Dec.{ltb, eqb}
-use borrow.Author.Tests.{eq-eqb, ne_eqb, eqb-true, eqb-false}
+use lib.Dec.{eqb}
+use borrow.Author.Tests.{ne_eqb, eqb-true}
 use Rattle.watch.specs.History.{some, repeats}
-use Rattle.watch.proofs.Tests.{by_cases, not-true-is, true-and-false, eqb_same, or-false-left, or-false-right}
+use Rattle.watch.proofs.Tests.{by_cases, true-and-false, eqb_same, or-false-left, or-false-right}
 
 unfoldable without_one : ℕ → List ℕ → List ℕ
 without_one f [] = []

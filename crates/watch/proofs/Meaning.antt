@@ -1,18 +1,15 @@
 -- What holds a folio, in the request's own sentence.
 -- Assumes nothing.
-use Prim.Native.Nat.{ℕ, zero, suc, ◌+◌, ◌≤◌, ◌<◌}
-use mathlib.Core.Path.{◌≡◌, refl, sym, ap, ◌∙◌}
-use mathlib.Core.Bool.{Bool, true, false, cond, not, ◌&&◌, ◌||◌, true≢false, false≢true, or-true}
+use Prim.Native.Nat.{ℕ, ◌+◌, ◌<◌}
+use mathlib.Core.Path.{◌≡◌, refl, ap}
+use mathlib.Core.Bool.{true, false, not, ◌&&◌, false≢true, or-true}
 use mathlib.Core.List.{List, [], ◌∷◌, ◌++◌}
-use native.Mathlib.Omega.{arith}
-use lib.ListN.{length}
-use lib.Dec.{ltb, eqb}
-use borrow.Author.Tests.{eq-eqb, ne_eqb, eqb-true, eqb-false, lt-ltb, ltb-true, not-true}
+use lib.Dec.{ltb}
+use borrow.Author.Tests.{lt-ltb, ltb-true, not-true}
 use Rattle.watch.specs.History.{some, starts_folio, ends_folio, holds_at, holding, held_before, HeldBy}
 use Rattle.watch.specs.declared.TraceRow.{TraceRow}
 use Rattle.paths.proofs.Tests.{and_left, and_right}
 use Rattle.watch.proofs.Tests.{by_cases}
-use Rattle.watch.proofs.Past.{starts-true, starts_is}
 
 module _ (b f t timeout : ℕ) where
   further : (r : TraceRow) (h : List TraceRow) → HeldBy b h f t timeout → HeldBy b (r ∷ h) f t timeout

@@ -1,8 +1,8 @@
 -- What a further row does to what the history says. Assumes nothing.
-use Prim.Native.Nat.{ℕ, zero, suc, ◌+◌, ◌≤◌, ◌<◌}
+use Prim.Native.Nat.{ℕ, suc, ◌+◌}
 use mathlib.Core.Path.{◌≡◌, refl, sym, ap, ◌∙◌}
 use mathlib.Core.Bool.{Bool, true, false, cond, not, ◌&&◌, ◌||◌, or-false, and-false, or_assoc}
-use mathlib.Core.List.{List, [], ◌∷◌, ◌++◌, append-nil}
+use mathlib.Core.List.{List, [], ◌∷◌, ◌++◌}
 use native.Mathlib.Omega.{arith}
 use lib.Dec.{ltb, eqb}
 use borrow.Author.Tests.{eq-eqb, ne_eqb, eqb-true, eqb-false}
@@ -10,7 +10,7 @@ use Rattle.watch.specs.History.{repeats, some, starts_folio, ends_folio, holds_a
 use Rattle.watch.specs.WatchTable.{covers_minute}
 use Rattle.watch.specs.declared.TraceRow.{TraceRow}
 use Rattle.paths.proofs.Tests.{and_left, and_right}
-use Rattle.watch.proofs.Tests.{by_cases, some-append, same_test, not-true-is, true-and-false, eqb_same, or-false-left, or-false-right}
+use Rattle.watch.proofs.Tests.{by_cases, some-append, not-true-is, true-and-false, eqb_same}
 
 -- what a row starts or ends, by its kind and folio
 module _ (f : ℕ) (r : TraceRow) where

@@ -1,8 +1,8 @@
 -- What a row does to what the table says. Assumes nothing.
-use Prim.Native.Nat.{ℕ, zero, suc, ◌+◌, ◌≤◌, ◌<◌}
+use Prim.Native.Nat.{ℕ, suc, ◌+◌, ◌≤◌, ◌<◌}
 use mathlib.Core.Path.{◌≡◌, refl, sym, ap, ◌∙◌}
-use mathlib.Core.Bool.{Bool, true, false, cond, not, ◌&&◌, ◌||◌, false≢true, or-true, or-false, and-false, or_assoc}
-use mathlib.Core.List.{List, [], ◌∷◌, ◌++◌}
+use mathlib.Core.Bool.{Bool, true, false, cond, ◌&&◌, ◌||◌, or-true, or-false}
+use mathlib.Core.List.{List, [], ◌∷◌}
 use native.Mathlib.Omega.{arith}
 use lib.ListN.{length, set}
 use lib.Dec.{ltb, eqb}
@@ -11,9 +11,8 @@ use Rattle.watch.specs.History.{repeats, changed, some, starts_folio, ends_folio
 use Rattle.watch.specs.WatchTable.{covers_minute, names_folio, place_held, empty_place, turned_by, place_after, fresh, free_at, doubled, Timed}
 use Rattle.watch.specs.declared.TraceRow.{TraceRow}
 use Rattle.watch.specs.declared.Emergency.{Emergency}
-use Rattle.paths.proofs.Tests.{and_left, and_right}
-use Rattle.watch.proofs.Tests.{by_cases, not-true-is, true-and-false, eqb_same, or-false-left, or-false-right, some-changed, some_mono, none-some, same_test}
-use Rattle.watch.proofs.Past.{starts-true, starts-kind, starts-folio, starts_is, ends-kind, ends-both, ends-not}
+use Rattle.watch.proofs.Tests.{by_cases, not-true-is, true-and-false, eqb_same, or-false-left, or-false-right, some-changed, some_mono}
+use Rattle.watch.proofs.Past.{starts-true, starts-kind, starts-folio, ends-both, ends-not}
 
 abbrev again : TraceRow → Emergency → Emergency
 again r p = record { mark = p.mark; folio = p.folio; latest = r.minute; earlier = p.latest }

@@ -1,7 +1,7 @@
 -- A table that stands for the history of its rows is told, of a further row, what the history says, and then stands for the history with that row. Assumes nothing.
 use Prim.Native.Nat.{ℕ, zero, suc, ◌+◌, ◌≤◌, ◌<◌}
 use mathlib.Core.Path.{◌≡◌, refl, sym, ap, ◌∙◌}
-use mathlib.Core.Bool.{Bool, true, false, cond, not, ◌&&◌, ◌||◌, false≢true, or-true, or-false, and-false, or_assoc}
+use mathlib.Core.Bool.{Bool, true, false, ◌&&◌, ◌||◌, false≢true, or-true, or-false, and-false}
 use mathlib.Core.List.{List, [], ◌∷◌, ◌++◌}
 use native.Mathlib.Omega.{arith}
 use lib.ListN.{length, set, length-set, replicate}
@@ -13,11 +13,10 @@ use Rattle.watch.specs.WatchTable.{covers_minute, names_folio, place_held, empty
 use Rattle.watch.specs.declared.TraceRow.{TraceRow}
 use Rattle.watch.specs.declared.Emergency.{Emergency}
 use Rattle.watch.specs.declared.Watch.{Watch}
-use Rattle.watch.specs.declared.Routed.{Routed}
 use Rattle.watch.specs.declared.Moved.{Moved}
-use Rattle.paths.proofs.Tests.{and_left, and_right}
-use Rattle.watch.proofs.Tests.{length-changed, by_cases, not-true-is, true-and-false, eqb_same, or-false-left, or-false-right}
-use Rattle.watch.proofs.Past.{starts-true, starts-kind, starts-folio, starts_is, ends-kind, ends-both, ends-not, held-end, held_on, last_on, held-listed, held-once}
+use Rattle.paths.proofs.Tests.{and_left}
+use Rattle.watch.proofs.Tests.{length-changed, by_cases, true-and-false}
+use Rattle.watch.proofs.Past.{starts-true, starts-kind, starts_is, ends-kind, held-end, held_on, last_on, held-listed, held-once}
 use Rattle.watch.proofs.Counting.{not-longer, nobody}
 use Rattle.watch.proofs.Places.{grow, ended, timed-after, lively, once_after, put_some, put-timed, put-once, names_of, names-listed, names-once, names-few, names-room, names-full, dead-all, fresh-held, blank-held}
 

@@ -2,14 +2,14 @@
 -- Assumes nothing.
 use Prim.Native.Nat.{ℕ, ◌≤◌}
 use mathlib.Core.Path.{◌≡◌, refl}
-use mathlib.Core.Bool.{Bool, true, false, cond}
+use mathlib.Core.Bool.{Bool, true, false}
 use mathlib.Core.List.{List}
 use native.Mathlib.Omega.{arith}
 use lib.Dec.{ltb, eqb}
 use lib.ListN.{length}
 use borrow.Author.Tests.{eq-eqb, ne_eqb, eqb-true}
 use Rattle.watch.specs.History.{changed, some, bad_row, offices_for}
-use Rattle.watch.specs.WatchTable.{names_folio, place_held, place_after, free_at, doubled, refused_row, taken_row, started_row, entered, advanced, TableStands}
+use Rattle.watch.specs.WatchTable.{names_folio, place_held, place_after, free_at, doubled, refused_row, taken_row, started_row, entered, advanced}
 use Rattle.watch.specs.Trace.{row_of_words, stepped_on}
 use Rattle.watch.specs.declared.TraceRow.{TraceRow}
 use Rattle.watch.specs.declared.Emergency.{Emergency}

@@ -1,8 +1,7 @@
 -- A whole trace read row by row, with a table that stands for the rows read.
 -- Assumes nothing.
-use Prim.Native.Nat.{ℕ, zero, suc, ◌+◌, ◌≤◌, ◌<◌}
+use Prim.Native.Nat.{ℕ, ◌+◌, ◌≤◌, ◌<◌}
 use mathlib.Core.Path.{◌≡◌, refl, sym, ap, ◌∙◌}
-use mathlib.Core.Bool.{Bool, true, false, cond, not, ◌&&◌, ◌||◌}
 use mathlib.Core.List.{List, [], ◌∷◌, ◌++◌, append_assoc, append-nil}
 use native.Mathlib.Omega.{arith}
 use native.Mathlib.Numerals.{add-one}
@@ -17,7 +16,6 @@ use Rattle.watch.specs.declared.TraceRow.{TraceRow}
 use Rattle.watch.specs.declared.Watch.{Watch}
 use Rattle.watch.specs.declared.Routed.{Routed}
 use Rattle.watch.specs.declared.Moved.{Moved}
-use Rattle.watch.specs.declared.CountedTrace.{CountedTrace}
 use Rattle.watch.proofs.Tests.{by_cases}
 use Rattle.watch.proofs.Standing.{advanced-right, empty-watch-stands}
 

@@ -1,6 +1,6 @@
 -- The table of open emergencies: what its places say, the table after a row, and which history it stands for.
 -- Assumes nothing.
-use Rattle.std.specs.Prelude.{ℕ, zero, suc, ◌+◌, ◌≤◌, ◌≡◌, Bool, true, false, cond, ◌||◌, List, [], ◌∷◌, length, set, replicate}
+use Rattle.std.specs.Prelude.{ℕ, suc, ◌+◌, ◌≤◌, ◌≡◌, Bool, true, false, cond, ◌||◌, List, [], ◌∷◌, length, set, replicate}
 use Rattle.sheet.specs.declared.Place.{Place}
 use Rattle.sheet.specs.Refusals.{◌is◌, ◌below◌}
 use Rattle.watch.specs.History.{changed, start_kind, end_kind, max_held, some, bad_row, offices_for, held_before, last_minute}

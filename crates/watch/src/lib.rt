@@ -1,5 +1,6 @@
 // The duty desk's watch: the emergencies that a history of rows holds, and the table that keeps them, advanced one row at a time.
 #![tactic(auto)]
+
 ghost use Rattle.std.specs.Prelude.{◌≡◌, ◌+◌, ◌^◌, ◌<◌, ◌≤◌, [], drop, length};
 ghost use Rattle.watch.specs.History.{changed, some, spare_word, bad_row, offices_for};
 ghost use Rattle.watch.specs.WatchTable.{covers_minute, names_folio, place_held, turned_by, place_after, free_place, doubled, empty_place, refused_row, taken_row, started_row, entered, advanced, empty_watch};
@@ -18,7 +19,7 @@ const QUESTION: u32 = 3;
 const PLACES: usize = 32;
 
 // A row of a trace. On a start and an end, person and deed are spare.
-#[derive(Drop)]
+#[derive(Clone, Copy)]
 pub struct TraceRow {
     pub minute: u32,
     pub kind: u32,
@@ -30,7 +31,7 @@ pub struct TraceRow {
 // One place of the table: the minutes of its folio's latest start and of the latest start of an earlier minute, or the latest again where
 // there is none. Any folio number may be named, so an empty place is told by its mark, which is 0.
 #[repr(C)]
-#[derive(Drop)]
+#[derive(Clone, Copy)]
 pub struct Emergency {
     pub mark: u32,
     pub folio: u32,
@@ -40,28 +41,28 @@ pub struct Emergency {
 
 // The table: the last row's minute, and the emergencies. Where every word is 0 it is empty.
 #[repr(C)]
-#[derive(Drop)]
+#[derive(Clone, Copy)]
 pub struct Watch {
     pub last: u32,
     pub places: [Emergency; PLACES],
 }
 
 // What a row is told: a refusal's number or 0, and how many offices its question goes to.
-#[derive(Drop)]
+#[derive(Clone, Copy)]
 pub struct Routed {
     pub number: u32,
     pub offices: u32,
 }
 
 // The table after a row, and what the row is told.
-#[derive(Drop)]
+#[derive(Clone, Copy)]
 pub struct Moved {
     pub watch: Watch,
     pub routed: Routed,
 }
 
 // A whole trace's refusal, or number 0 and how many questions it asks.
-#[derive(Drop)]
+#[derive(Clone, Copy)]
 pub struct CountedTrace {
     pub number: u32,
     pub count: usize,
