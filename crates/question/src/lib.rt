@@ -1,5 +1,6 @@
 // What a question is, what it is refused by for its office and identities, and what every reply is made of.
 #![tactic(auto)]
+
 ghost use Rattle.std.specs.Prelude.{◌≡◌, ◌&&◌, ◌||◌, ◌^◌, ◌<◌, ◌≤◌};
 ghost use Rattle.sheet.specs.Limits.{max_offices};
 ghost use Rattle.sheet.specs.Refusals.{◌is◌};
@@ -18,7 +19,7 @@ pub const OF_GRANTS: u32 = 0;
 pub const OF_BANS: u32 = 1;
 
 // What is asked. Each question looks at the numbers that it names: office or rule, kind, and `other` where it names two deeds.
-#[derive(Drop)]
+#[derive(Clone, Copy)]
 pub struct Question {
     pub office: u32,
     pub rule: u32,
@@ -32,7 +33,7 @@ pub struct Question {
 
 // A refusal's number and place, or number 0 with what the question tells.
 #[repr(C)]
-#[derive(Drop)]
+#[derive(Clone, Copy)]
 pub struct Answer {
     pub number: u32,
     pub sheet: u32,
