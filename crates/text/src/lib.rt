@@ -1,14 +1,31 @@
 // A text that grows: bytes, or a label and a number in decimal, behind what is there already.
 #![tactic(auto)]
+
 ghost use Rattle.std.specs.Prelude.{◌++◌, ◌+◌, ◌≤◌, length};
-ghost use Rattle.text.specs.Growing.{labelled, Grows};
+ghost use Rattle.text.specs.Growing.{decimal, labelled, Grows};
 
 // Bytes behind the first `at` of the text; the result is where they end.
 pub fn put_bytes(text: &mut [u8], at: usize, bytes: &[u8]) -> usize
     requires { at + length bytes.now ≤ length text.old }
     ensures { Grows text.old at bytes.now result text.new }
 {
-    at + bytes::copy(bytes, &mut text[at..])
+    let end = at + bytes.len();
+    text[at..end].copy_from_slice(bytes);
+    end
+}
+
+// A number in decimal, likewise: the digits in front of the lowest, and then the lowest.
+fn put_decimal(text: &mut [u8], at: usize, number: u32) -> usize
+    requires { at + length (decimal number) ≤ length text.old }
+    ensures { Grows text.old at (decimal number) result text.new }
+{
+    if number < 10 {
+        text[at] = 48 + number as u8;
+        return at + 1;
+    }
+    let from = put_decimal(text, at, number / 10);
+    text[from] = 48 + (number % 10) as u8;
+    from + 1
 }
 
 // A label and a number, likewise. A number has ten digits at most.
@@ -17,9 +34,7 @@ pub fn put_number(text: &mut [u8], at: usize, label: &[u8], number: u32) -> usiz
     ensures { (result ≤ at + length label.now + 10) × Grows text.old at (labelled label.now number) result text.new }
 {
     let from = put_bytes(text, at, label);
-    let mut digits = [0u8; 20];
-    let n = io::decimal(number as u64, &mut digits);
-    put_bytes(text, from, &digits[0..n])
+    put_decimal(text, from, number)
 }
 
 // Two labels, each with its number, likewise.
