@@ -1,5 +1,6 @@
 // Two sheets combined row by row: at each identity and relation the marks that a rule makes of both sheets', and no row where it makes none.
 #![tactic(auto)]
+
 ghost use Rattle.std.specs.Prelude.{◌≡◌, ltb, ◌+◌, ◌<◌, ◌≤◌, length};
 ghost use Rattle.tables.specs.Count.{number_of};
 ghost use Rattle.tables.specs.Key.{below_key};
@@ -16,7 +17,7 @@ use sheet::{Cells, Half, Header};
 
 // What is made of the marks of two sheets at one key: the second's behind the first's offices, which the shift counts; those of a
 // run of the first's offices, from the mark `low` on, as many as the span counts; or the marks of either.
-#[derive(Drop)]
+#[derive(Clone, Copy)]
 pub enum Rule {
     Beside(u32),
     Run(u32, u32),
@@ -24,7 +25,7 @@ pub enum Rule {
 }
 
 // What is made of two sheets: a rule for their nodes, one for their edges, and how many offices the marks are of that they make.
-#[derive(Drop)]
+#[derive(Clone, Copy)]
 pub struct Plan {
     pub nodes: Rule,
     pub edges: Rule,
@@ -32,21 +33,21 @@ pub struct Plan {
 }
 
 // How many rows the combination of two sheets has.
-#[derive(Drop)]
+#[derive(Clone, Copy)]
 pub struct Measure {
     pub nodes: usize,
     pub edges: usize,
 }
 
 // How far a walk has come in each table.
-#[derive(Drop)]
+#[derive(Clone, Copy)]
 struct Passed {
     i: usize,
     j: usize,
 }
 
 // How far a walk has come in each table after a row, and the row's marks.
-#[derive(Drop)]
+#[derive(Clone, Copy)]
 struct Next {
     i: usize,
     j: usize,
