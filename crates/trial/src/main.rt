@@ -1,15 +1,17 @@
 // Puts any input to every public function, for a program outside: requests on standard input, a reply to each on standard output.
 // The trial program's page in docs/TRIAL.md has the form of both.
 #![tactic(auto)]
+
 ghost use Rattle.std.specs.Prelude.{◌≡◌, ◌+◌, ◌*◌, ◌^◌, ◌<◌, ◌≤◌, length, replicate};
 
 use duty::TraceReply;
 use join::Joined;
-use libc::{STDIN_FILENO, STDOUT_FILENO};
 use listing::Listing;
 use opened::Which;
 use question::{Answer, Question};
 use sheet::{Edge, Node, Refusal};
+use std::io;
+use std::io::{Read, Write};
 
 // The longest payload in bytes, and the longest output in words.
 const MAX_PAYLOAD: usize = 160000;
@@ -17,7 +19,7 @@ const MAX_PAYLOAD: usize = 160000;
 const MAX_OUTPUT: usize = 40000;
 
 // The words of a request that this program looks at: the operation, its numbers in order, and the lengths and the fill.
-#[derive(Drop)]
+#[derive(Clone, Copy)]
 struct Request {
     operation: u32,
     a1: u32,
@@ -31,7 +33,7 @@ struct Request {
     fill: u32,
 }
 
-#[derive(Drop)]
+#[derive(Clone, Copy)]
 struct Reply {
     number: u32,
     sheet: u32,
@@ -411,18 +413,19 @@ fn fill_with(out: &mut [u32], word: u32)
 }
 
 // Writes words to standard output, by way of lent bytes that have room for them.
-fn send(words: &[u32], bytes: &mut [u8]) {
+fn send(output: &mut impl Write, words: &[u32], bytes: &mut [u8]) {
     let n = words.len();
     if bytes.len() / 4 < n {
         return;
     }
     files::encode(words, bytes);
-    io::write_all(STDOUT_FILENO, &bytes[0..4 * n]);
+    let _ = output.write_all(&bytes[0..4 * n]);
 }
 
 // Writes a reply's head to standard output.
-fn send_head(r: Reply, room: u32, bytes: &mut [u8]) {
+fn send_head(output: &mut impl Write, r: Reply, room: u32, bytes: &mut [u8]) {
     send(
+        output,
         &[
             r.number, r.sheet, r.row, r.value, r.count, r.extra, r.further, room,
         ],
@@ -432,6 +435,7 @@ fn send_head(r: Reply, room: u32, bytes: &mut [u8]) {
 
 // Answers one request on its payloads, and writes the reply with the whole output behind it.
 fn respond<'a>(
+    output: &mut impl Write,
     q: Request,
     file: &[u8],
     first: &'a [u32],
@@ -443,14 +447,13 @@ fn respond<'a>(
 {
     fill_with(out, q.fill);
     let r = answer(q, file, first, second, out);
-    send_head(r, q.room, bytes);
-    send(out, bytes);
+    send_head(output, r, q.room, bytes);
+    send(output, out, bytes);
 }
 
 // Fills the bytes from standard input; false where it ends first.
-fn fetch(bytes: &mut [u8]) -> bool {
-    let n = bytes.len();
-    io::read_full(STDIN_FILENO, bytes) == n
+fn fetch(input: &mut impl Read, bytes: &mut [u8]) -> bool {
+    input.read_exact(bytes).is_ok()
 }
 
 // A request's head.
@@ -473,6 +476,7 @@ fn request_of(head: &[u8]) -> Request {
 
 // The words of both payloads, in lent words that have room for them, and the answer.
 fn decode_and_respond(
+    output: &mut impl Write,
     q: Request,
     first: &[u8],
     second: &[u8],
@@ -493,11 +497,13 @@ fn decode_and_respond(
     }
     files::decode(first, words);
     files::decode(second, others);
-    respond(q, first, &words[0..n], &others[0..m], out, bytes);
+    respond(output, q, first, &words[0..n], &others[0..m], out, bytes);
 }
 
 // Reads a request's payloads, and answers it; false where the input ends first.
 fn attend(
+    input: &mut impl Read,
+    output: &mut impl Write,
     q: Request,
     first: &mut [u8],
     second: &mut [u8],
@@ -508,18 +514,20 @@ fn attend(
 ) -> bool
     requires { length out.old ≤ 40000 }
 {
-    if !fetch(first) {
+    if !fetch(input, first) {
         return false;
     }
-    if !fetch(second) {
+    if !fetch(input, second) {
         return false;
     }
-    decode_and_respond(q, first, second, words, others, out, bytes);
+    decode_and_respond(output, q, first, second, words, others, out, bytes);
     true
 }
 
 // Reads one request, and answers it in the lent buffers; false where the input has no whole one, or its lengths are over theirs.
 fn serve(
+    input: &mut impl Read,
+    output: &mut impl Write,
     first: &mut [u8],
     second: &mut [u8],
     words: &mut [u32],
@@ -530,7 +538,7 @@ fn serve(
     requires { length space.old ≤ 40000 }
 {
     let mut head = [0u8; 48];
-    if !fetch(&mut head) {
+    if !fetch(input, &mut head) {
         return false;
     }
     let q = request_of(&head);
@@ -547,6 +555,8 @@ fn serve(
         return false;
     }
     attend(
+        input,
+        output,
         q,
         &mut first[0..a],
         &mut second[0..b],
@@ -558,25 +568,28 @@ fn serve(
 }
 
 // The buffers are made once: to clear them for each request would take most of its time.
-// A proved loop has to end, and nothing says that the input does. So the loop counts its turns down, from a number that no run uses up.
-fn main() {
+// A proved loop has to end, and nothing says that the input does. So the loop counts its turns, up to a number that no run uses up.
+fn main(rt: HostRuntime) {
     let mut first = [0u8; MAX_PAYLOAD];
     let mut second = [0u8; MAX_PAYLOAD];
     let mut words = [0u32; MAX_OUTPUT];
     let mut others = [0u32; MAX_OUTPUT];
     let mut space = [0u32; MAX_OUTPUT];
     let mut bytes = [0u8; MAX_PAYLOAD];
-    let mut turns = u64::MAX;
-    while turns > 0
-        && serve(
+    let mut input = rt.reader();
+    let mut output = io::writer(&rt);
+    for _ in 0..u64::MAX {
+        if !serve(
+            &mut input,
+            &mut output,
             &mut first,
             &mut second,
             &mut words,
             &mut others,
             &mut space,
             &mut bytes,
-        )
-    {
-        turns -= 1;
+        ) {
+            break;
+        }
     }
 }
