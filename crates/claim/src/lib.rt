@@ -1,5 +1,6 @@
 // Question 4: whether a list of words, claimed to be a grant or ban path, is one.
 #![tactic(auto)]
+
 ghost use Rattle.std.specs.Prelude.{◌≡◌, ◌+◌, ◌*◌, ◌<◌, ◌≤◌, length, get_or};
 ghost use Rattle.tables.specs.Count.{number_of};
 ghost use Rattle.tables.specs.Key.{relation};
