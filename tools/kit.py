@@ -1,0 +1,63 @@
+"""The kit's own functions, for tools/ and tests/: how a crate is checked, and where the libraries below it are built."""
+import hashlib
+import importlib.machinery
+import importlib.util
+import os
+import pathlib
+import shutil
+import sys
+
+TOP = pathlib.Path(__file__).resolve().parent.parent
+NOTED = TOP / 'target' / 'proved'
+
+
+def home():
+    """The folder of the kit, by the path of its command."""
+    found = shutil.which('rt')
+    if not found:
+        sys.exit("the kit's command, rt, is not on the PATH")
+    return pathlib.Path(found).resolve().parent.parent
+
+
+def module(name, path):
+    """A script as a module."""
+    loader = importlib.machinery.SourceFileLoader(name, str(path))
+    sys.modules[name] = importlib.util.module_from_spec(importlib.util.spec_from_loader(name, loader))
+    loader.exec_module(sys.modules[name])
+    return sys.modules[name]
+
+
+def rt():
+    """The command rt as a module."""
+    if 'rt' not in sys.modules:
+        module('rt', home() / 'bin' / 'rt')
+        sys.modules['rt'].rtlib.guarded()
+        sys.modules['rt'].share_work(False)
+    return sys.modules['rt']
+
+
+def crates():
+    """The crates of the repository, lowest first."""
+    return sorted(rt().rtlib.crates_below(str(TOP)), key=lambda crate: len(crate.below()))
+
+
+def sum_now():
+    """A sum of all that proofs read: the kit, crates.txt and the crates' files."""
+    return hashlib.sha256(repr([rt().stamp_of(crate, {}) for crate in crates()]).encode()).hexdigest()
+
+
+def note():
+    """Notes that rt ci proved these files just now, so that the libraries that it left in out/ are theirs."""
+    NOTED.parent.mkdir(exist_ok=True)
+    NOTED.write_text(sum_now(), encoding='utf-8')
+
+
+def ready(crate):
+    """Sees that each library below the crate is built, of the files that are there now. Those that rt ci left have no stamp."""
+    below = crate.below()
+    left = [not os.path.exists(f'{each.folder}/out/rlib/stamp') and os.path.isdir(each.rlib) for each in below]
+    if all(left) and NOTED.is_file() and NOTED.read_text(encoding='utf-8') == sum_now():
+        return
+    for each in below:
+        if each.build_rlib(['--jobs', '1'], anew=False):
+            sys.exit(f'{each.name} is not proved')
