@@ -22,7 +22,7 @@ use Rattle.paths.specs.Reached.{Layers}
 use Rattle.paths.proofs.Tests.{both}
 use Rattle.paths.proofs.Distances.{zero_or}
 use Rattle.paths.proofs.Trails.{listed, numbered}
-use Rattle.meaning.specs.Paths.{Side, person, deed, folio, HasPath}
+use Rattle.meaning.specs.Paths.{Side, HasPath}
 use Rattle.meaning.specs.Answers.{Says}
 use Rattle.meaning.proofs.Axioms.{a1-a2}
 use Rattle.walk.specs.Arcs.{Steps, reversed}

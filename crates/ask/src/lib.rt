@@ -1,5 +1,6 @@
 // Questions 1 to 3: the answer at an office, the joint answer, and the witness.
 #![tactic(auto)]
+
 ghost use Rattle.std.specs.Prelude.{◌≡◌, true, false, ℕ, suc, ◌*◌, ◌<◌, ◌≤◌, length, get_or, take, drop, ◌++◌};
 ghost use Rattle.sheet.specs.Limits.{max_offices, max_nodes};
 ghost use Rattle.sheet.specs.Refusals.{none};
@@ -41,7 +42,7 @@ const DENY_FIRST: u32 = 2;
 const FIRST_APPLICABLE: u32 = 3;
 
 // Where a question's person, deed and folio stand among the node rows.
-#[derive(Drop)]
+#[derive(Clone, Copy)]
 pub struct Places {
     pub person: Place,
     pub deed: Place,
@@ -49,7 +50,7 @@ pub struct Places {
 }
 
 // How a question at an office stands: a refusal's number, or 0 with the seat from which it is asked, and the rows of the person and the folio.
-#[derive(Drop)]
+#[derive(Clone, Copy)]
 struct Stand {
     number: u32,
     seat: Seat,
