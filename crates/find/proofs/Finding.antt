@@ -5,14 +5,14 @@ use mathlib.Core.Path.{◌≡◌, refl, sym, ap, ap₂, subst, ◌∙◌}
 use mathlib.Core.Bool.{Bool}
 use mathlib.Core.List.{List}
 use native.Mathlib.Omega.{arith}
-use Rattle.tables.specs.Count.{number_of, has}
+use Rattle.tables.specs.Count.{number_of}
 use Rattle.tables.specs.Key.{Key}
 use Rattle.sheet.specs.declared.Half.{Half}
 use Rattle.sheet.specs.declared.Header.{Header}
 use Rattle.sheet.specs.declared.Place.{Place}
 use Rattle.sheet.specs.declared.Refusal.{Refusal}
 use Rattle.sheet.specs.Accepted.{HalfFormed}
-use Rattle.sheet.specs.Found.{PlaceIs, FoundIs}
+use Rattle.sheet.specs.Found.{FoundIs}
 use Rattle.sheet.specs.Rows.{header_of, count_in, row_key_at}
 use Rattle.sheet.specs.Verdict.{verdict}
 use Rattle.sheet.proofs.Accepting.{accepted}

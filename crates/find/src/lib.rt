@@ -1,5 +1,6 @@
 // Where a row stands in a sheet, or would stand: node rows and edge rows alike.
 #![tactic(auto)]
+
 ghost use Rattle.std.specs.Prelude.{[], ◌∷◌};
 ghost use Rattle.tables.specs.Key.{identity};
 ghost use Rattle.sheet.specs.Rows.{row_key};

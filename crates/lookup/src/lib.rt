@@ -1,5 +1,6 @@
 // Looking an identity up in two sheets at once: its row as it stands in the first that has it, and why there is none.
 #![tactic(auto)]
+
 ghost use Rattle.std.specs.Prelude.{◌≡◌};
 ghost use Rattle.tables.specs.Key.{identity};
 ghost use Rattle.sheet.specs.Parts.{lent};
