@@ -10,7 +10,6 @@ use lib.ListN.{length, get_or, drop, drop_of_length-le}
 use lib.Seq.{drop-cons}
 use borrow.Author.Tests.{ltb-true, ltb-false, not-true}
 use Rattle.tables.proofs.Tables.{and-true}
-use Rattle.lines.specs.declared.Digits.{Digits}
 use Rattle.lines.specs.Numerals.{is_digit, digits_of, behind_digits, value_from, value_of, too_high}
 use Rattle.lines.specs.Fitting.{DigitsAre}
 

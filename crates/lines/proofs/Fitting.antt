@@ -17,7 +17,7 @@ use Rattle.lines.specs.declared.Digits.{Digits}
 use Rattle.lines.specs.declared.Numbers.{Numbers}
 use Rattle.lines.specs.declared.Progress.{Progress}
 use Rattle.lines.specs.Numerals.{is_digit, digits_of, behind_digits, value_of, too_high, bad_number}
-use Rattle.lines.specs.Nine.{nine, of_variant, of_number, Fitted, unlike, with_number, fitted, faulty, first_fit, said}
+use Rattle.lines.specs.Nine.{nine, of_variant, of_number, Fitted, with_number, fitted, faulty, first_fit, said}
 use Rattle.lines.specs.Fitting.{DigitsAre, and_number, with_numbers, numbers_in, Held, outcome, by_pattern, Passes}
 
 -- ---- numbers

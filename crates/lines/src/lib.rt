@@ -1,5 +1,6 @@
 // One line of a listing: what it says, and how it is written.
 #![tactic(auto)]
+
 ghost use Rattle.std.specs.Prelude.{◌≡◌, [], ◌∷◌, true, false, ◌&&◌, ◌||◌, not, ◌+◌, ◌-◌, ◌*◌, ◌%◌, ◌≤◌, ◌<◌, min, length, drop, get_or};
 ghost use Rattle.text.specs.Growing.{Grows};
 ghost use Rattle.sheet.specs.Refusals.{◌is◌, ◌below◌};
@@ -10,7 +11,7 @@ ghost use Rattle.lines.specs.Fitting.{DigitsAre, and_number, with_numbers, numbe
 
 // What a line says: its form, 1 to 9 in the order of the nine lines, and its numbers in order; or its fault, 40 or 41.
 #[repr(C)]
-#[derive(Drop)]
+#[derive(Clone, Copy)]
 pub struct Line {
     pub fault: u32,
     pub form: u32,
@@ -23,14 +24,14 @@ pub struct Line {
 const TOO_HIGH: u64 = 4294967296;
 
 // Digits as they stand in a line: where they end, and what they write, or the lowest number that is too high.
-#[derive(Drop)]
+#[derive(Clone, Copy)]
 struct Digits {
     end: usize,
     value: u64,
 }
 
 // The numbers of a line, as far as it was read: how many, whether all are good, and their values where they are.
-#[derive(Drop)]
+#[derive(Clone, Copy)]
 struct Numbers {
     count: u32,
     good: bool,
@@ -40,7 +41,7 @@ struct Numbers {
 }
 
 // How far a line was read by a pattern, and its numbers so far; or that it is unlike the pattern.
-#[derive(Drop)]
+#[derive(Clone, Copy)]
 struct Progress {
     fits: bool,
     at: usize,
