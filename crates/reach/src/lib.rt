@@ -1,5 +1,6 @@
 // What a walk reaches from a row, as numbers and in identities, and how what is found is collected in a list.
 #![tactic(auto)]
+
 ghost use Rattle.std.specs.Prelude.{◌<◌, ◌≤◌, length};
 ghost use Rattle.sheet.specs.Accepted.{WellFormed};
 ghost use Rattle.sheet.specs.Seats.{Seated};
@@ -14,7 +15,7 @@ use walk::Walk;
 const ROWS: usize = sheet::MAX_NODES as usize;
 
 // What a question finds in a list: whether there is what it asks for, and how many words in front tell it; 0 where there is none.
-#[derive(Drop)]
+#[derive(Clone, Copy)]
 pub struct FoundWords {
     pub found: bool,
     pub count: u32,
