@@ -1,3 +1,4 @@
+#!/usr/bin/env python3
 """The kit's own functions, for tools/ and tests/: how a crate is checked, and where the libraries below it are built."""
 import hashlib
 import importlib.machinery
@@ -5,6 +6,7 @@ import importlib.util
 import os
 import pathlib
 import shutil
+import subprocess
 import sys
 
 TOP = pathlib.Path(__file__).resolve().parent.parent
@@ -52,12 +54,34 @@ def note():
     NOTED.write_text(sum_now(), encoding='utf-8')
 
 
+def is_left(crate):
+    """Whether the libraries below the crate are those that rt ci left, of the files that are there now. They have no stamp."""
+    left = [os.path.isdir(each.rlib) and not os.path.exists(f'{each.folder}/out/rlib/stamp') for each in crate.below()]
+    return all(left) and NOTED.is_file() and NOTED.read_text(encoding='utf-8') == sum_now()
+
+
 def ready(crate):
-    """Sees that each library below the crate is built, of the files that are there now. Those that rt ci left have no stamp."""
-    below = crate.below()
-    left = [not os.path.exists(f'{each.folder}/out/rlib/stamp') and os.path.isdir(each.rlib) for each in below]
-    if all(left) and NOTED.is_file() and NOTED.read_text(encoding='utf-8') == sum_now():
-        return
-    for each in below:
+    """Sees that each library below the crate is built, of the files that are there now."""
+    for each in [] if is_left(crate) else crate.below():
         if each.build_rlib(['--jobs', '1'], anew=False):
             sys.exit(f'{each.name} is not proved')
+
+
+def archive(name):
+    """Proves a static library and makes its archive, as rt lib does; right after rt ci over the libraries that it left."""
+    crate = next(each for each in crates() if each.name == name)
+    if is_left(crate):
+        words = crate.words(['--jobs', '2'], keeps=False)
+        if not crate.call(rt().rtlib.RATTLE, 'build', *words, '--toolchain', f'{home()}/toolchain', '--backend', 'llvm', '-o', f'out/lib{name}.a'):
+            return 0
+    return subprocess.run(['rt', 'lib'], cwd=crate.folder, check=False).returncode
+
+
+def main(verb, *words):
+    """tools/kit.py note, or tools/kit.py archive NAME"""
+    return note() if verb == 'note' else archive(*words)
+
+
+if __name__ == '__main__':
+    sys.dont_write_bytecode = True
+    sys.exit(main(*sys.argv[1:]))

@@ -2,7 +2,6 @@
 import json
 import os
 import pathlib
-import platform
 import shutil
 import subprocess
 from typing import NamedTuple
@@ -28,7 +27,7 @@ class Finding(NamedTuple):
 
 def start_of_x86():
     """What tools/x86 puts before a program. Here it is found once, which saves a shell for each run."""
-    kit = pathlib.Path(shutil.which('rt')).resolve().parent.parent / 'on' / platform.machine() / 'toolchain'
+    kit = pathlib.Path(shutil.which('rt')).resolve().parent.parent / 'toolchain'
     emulator = kit / 'bin' / 'qemu-x86_64'
     start = [str(kit / 'lib' / 'ld-linux-x86-64.so.2'), '--library-path', str(kit / 'lib')]
     return ([str(emulator)] if os.access(emulator, os.X_OK) else []) + start
