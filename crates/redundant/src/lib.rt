@@ -1,5 +1,6 @@
 // Question 10 at an office: the rows that are redundant, each judged by walks without its step.
 #![tactic(auto)]
+
 ghost use Rattle.std.specs.Prelude.{◌≡◌, ◌<◌, length};
 ghost use Rattle.sheet.specs.Kinds.{grant_kind, ban_kind};
 ghost use Rattle.sheet.specs.Limits.{most_edges};
