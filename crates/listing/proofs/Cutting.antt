@@ -9,15 +9,32 @@ use native.Mathlib.Decide.{dec_lt}
 use native.Mathlib.Numerals.{add-one}
 use lib.Dec.{eqb}
 use lib.ListN.{length, get_or, take, drop, length-drop, drop_of_length-le}
-use lib.Seq.{drop-drop, take-length, drop-cons}
+use lib.Seq.{drop-drop, drop-cons}
+use borrow.Author.Tests.{eq-eqb, ne_eqb}
 use borrow.Author.Count.{below_none, below_more}
 use Rattle.sheet.specs.Found.{FirstFound}
-use Rattle.bytes.specs.Bytes.{index_of, index_after, slice}
 use Rattle.lines.specs.declared.Line.{Line}
 use Rattle.lines.specs.Nine.{faulty, said}
 use Rattle.listing.specs.declared.Taken.{Taken}
 use Rattle.listing.specs.Cut.{cut_up, begun, lines_said, line_at}
-use Rattle.listing.specs.LineByLine.{CameTo, TakesLine}
+use Rattle.listing.specs.LineByLine.{index_of, index_after, CameTo, TakesLine}
+
+-- ---- where a line ends
+
+-- the byte that is sought stands in front
+pub index-here : (x : ℕ) (t : List ℕ) (i : ℕ) → i < length t → get_or t i 0 ≡ x → index_of x (drop i t) ≡ 0
+unfolding index_of index_after
+index-here x t i h e = rw (drop-cons t i 0 h, eq-eqb (get_or t i 0) x e)
+
+-- another byte stands in front
+pub index-further : (x : ℕ) (t : List ℕ) (i : ℕ) → i < length t → (get_or t i 0 ≡ x → ⊥) → index_of x (drop i t) ≡ suc (index_of x (drop (suc i) t))
+unfolding index_of index_after
+index-further x t i h n = rw (drop-cons t i 0 h, ne_eqb (get_or t i 0) x n)
+
+-- none is left
+pub index-none : (x : ℕ) (t : List ℕ) (i : ℕ) → length t ≤ i → index_of x (drop i t) ≡ 0
+unfolding index_of
+index-none x t i h = rw (drop_of_length-le t {i = i} h)
 
 -- ---- the first line
 
@@ -64,13 +81,9 @@ says_last (b ∷ t) l h = rw (cut-last (b ∷ t) h) refl
 -- ---- the line that starts at a place
 
 module _ (text : List ℕ) (at : ℕ) (h : at < length text) where
-  tail-slice : slice at (length text) text ≡ drop at text
-  unfolding slice
-  tail-slice = ap (drop at) (take-length text)
-
-  module _ (end : ℕ) (e : end ≡ at + index_of 10 (slice at (length text) text)) where
+  module _ (end : ℕ) (e : end ≡ at + index_of 10 (drop at text)) where
     feed-at : at + index_of 10 (drop at text) ≡ end
-    feed-at = ap (λ (t : List ℕ). at + index_of 10 t) (sym tail-slice) ∙ sym e
+    feed-at = sym e
 
     pub takes-line : end < length text → (l : Line) → l ≡ said (take (end - at) (drop at text)) → TakesLine text at (record { line = l; next = end + 1 })
     takes-line g l q =

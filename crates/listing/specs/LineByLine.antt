@@ -1,7 +1,7 @@
 -- How a text is read line by line: what the inner functions give.
 -- Assumes nothing.
-use Rattle.std.specs.Prelude.{ℕ, ◌*◌, ◌<◌, ◌≤◌, ◌≡◌, Bool, not, ◌&&◌, List, ◌∷◌, length, drop}
-use Rattle.sheet.specs.Refusals.{◌when◌otherwise◌, ◌or_else◌}
+use Rattle.std.specs.Prelude.{ℕ, suc, ◌*◌, ◌<◌, ◌≤◌, ◌≡◌, Bool, true, false, not, ◌&&◌, List, [], ◌∷◌, length, drop}
+use Rattle.sheet.specs.Refusals.{◌is◌, ◌when◌otherwise◌, ◌or_else◌}
 use Rattle.lines.specs.declared.Line.{Line}
 use Rattle.lines.specs.Naming.{is_node_line, from_line, to_line, within_itself, line_key}
 use Rattle.sorting.specs.Sorted.{most_sorted, four_at, Sorted}
@@ -9,6 +9,16 @@ use Rattle.listing.specs.declared.FirstFault.{FirstFault}
 use Rattle.listing.specs.declared.Taken.{Taken}
 use Rattle.listing.specs.Cut.{lines_said, line_at}
 use Rattle.listing.specs.Faults.{says_this}
+
+-- a byte more in front of a text, which is the byte sought or not
+unfoldable pub index_after : Bool → ℕ → ℕ
+index_after true i = 0
+index_after false i = suc i
+
+-- where a byte stands first in a text, or the text's length
+unfoldable pub index_of : ℕ → List ℕ → ℕ
+index_of x [] = 0
+index_of x (b ∷ t) = index_after (b is x) (index_of x t)
 
 -- reading has come to line i, which starts at `at`
 pub record CameTo (text : List ℕ) (i at : ℕ) : Type 0 where

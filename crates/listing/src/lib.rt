@@ -1,8 +1,9 @@
 // A listing: the rows of a one-office sheet as lines that people can type. Reading a text, and writing a sheet.
 #![tactic(auto)]
+
 mod writing;
 
-ghost use Rattle.std.specs.Prelude.{◌≡◌, ◌+◌, ◌-◌, ◌*◌, ◌<◌, ◌≤◌, length};
+ghost use Rattle.std.specs.Prelude.{◌≡◌, ◌+◌, ◌-◌, ◌*◌, ◌<◌, ◌≤◌, length, drop};
 ghost use Rattle.std.proofs.lemmas.List.Edits.{sets};
 ghost use Rattle.sheet.specs.Found.{FirstFound};
 ghost use Rattle.sheet.specs.Limits.{max_nodes, max_edges, sheet_words};
@@ -11,7 +12,7 @@ ghost use Rattle.lines.specs.Naming.{line_key, same_line};
 ghost use Rattle.sorting.specs.Sorted.{most_sorted, four_of};
 ghost use Rattle.listing.specs.Cut.{lines_said, line_at};
 ghost use Rattle.listing.specs.Faults.{says_this};
-ghost use Rattle.listing.specs.LineByLine.{TakesLine, own_fault, LooksThrough, InTable, InOrder, Tabled, lacks_end};
+ghost use Rattle.listing.specs.LineByLine.{index_of, TakesLine, own_fault, LooksThrough, InTable, InOrder, Tabled, lacks_end};
 ghost use Rattle.listing.specs.Laying.{first_edge, line_in, PlaceOfLine, CellsFor, RowsLaid, SheetLaid, ReadsGood};
 ghost use Rattle.listing.specs.Promises.{ReadsListing};
 
@@ -26,7 +27,7 @@ const TABLE: usize = 4 * sorting::MOST;
 // A refusal's number and place, or number 0 with how many words or bytes were written. A line's number has the width of the text's
 // length, as a text may have any.
 #[repr(C)]
-#[derive(Drop)]
+#[derive(Clone, Copy)]
 pub struct Listing {
     pub number: u32,
     pub sheet: u32,
@@ -35,17 +36,33 @@ pub struct Listing {
 }
 
 // A line of a text, and where the next one starts.
-#[derive(Drop)]
+#[derive(Clone, Copy)]
 struct Taken {
     line: Line,
     next: usize,
 }
 
 // How many lines have no fault of their own, and the fault of the line behind them; 0 where there is none.
-#[derive(Drop)]
+#[derive(Clone, Copy)]
 struct FirstFault {
     count: usize,
     fault: u32,
+}
+
+// Where the line that starts at `at` ends: at the first line feed from there on, or at the text's end.
+fn line_end(text: &[u8], at: usize) -> usize
+    requires { at ≤ length text.now }
+    ensures { result ≡ at + index_of 10 (drop at text.now) }
+{
+    let n = text.len();
+    let mut end = at;
+    while end < n {
+        if text[end] == b'\n' {
+            return end;
+        }
+        end += 1;
+    }
+    end
 }
 
 // The line that starts at `at`.
@@ -54,7 +71,7 @@ fn take_line(text: &[u8], at: usize) -> Taken
     ensures { TakesLine text.now at result }
 {
     let n = text.len();
-    let end = bytes::scan::find(text, at, n, b'\n');
+    let end = line_end(text, at);
     if end < n {
         let line = lines::read_line(&text[at..end]);
         return Taken {
