@@ -1,5 +1,6 @@
 // Questions 8 and 9 at an office: the least triple that is Both, and the least person and folio with two deeds.
 #![tactic(auto)]
+
 ghost use Rattle.std.specs.Prelude.{◌≡◌, true, false, ◌&&◌, not, ◌<◌, ◌≤◌, length, [], ◌∷◌};
 ghost use Rattle.tables.specs.Count.{number_of};
 ghost use Rattle.sheet.specs.Limits.{max_nodes, most_edges};
@@ -23,7 +24,7 @@ use walk::Walk;
 const ROWS: usize = sheet::MAX_NODES as usize;
 
 // What a search found: the numbers of a person, a deed and a folio; a pair leaves the deed 0.
-#[derive(Drop)]
+#[derive(Clone, Copy)]
 struct Hit {
     found: bool,
     person: u32,
