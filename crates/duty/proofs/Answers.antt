@@ -4,8 +4,8 @@ use Prim.Native.Nat.{ℕ, zero, suc, ◌+◌, ◌-◌, ◌<◌, ◌≤◌}
 use mathlib.Core.Path.{◌≡◌, refl, sym, ap, ap₂, subst, ◌∙◌}
 use mathlib.Core.List.{List, [], ◌∷◌, ◌++◌}
 use native.Mathlib.Omega.{arith}
-use lib.ListN.{length, set, drop, length-append}
-use lib.Seq.{sets, sets-eq, length-sets}
+use lib.ListN.{length, set}
+use lib.Seq.{sets, length-sets}
 use Rattle.tables.specs.Office.{View}
 use Rattle.meaning.specs.Answers.{AnswerIs}
 use Rattle.meaning.proofs.Unique.{answer-one}
@@ -14,8 +14,8 @@ use Rattle.watch.specs.declared.Routed.{Routed}
 use Rattle.watch.specs.declared.Moved.{Moved}
 use Rattle.watch.specs.declared.Watch.{Watch}
 use Rattle.watch.specs.WatchTable.{advanced, empty_watch}
-use Rattle.watch.specs.Trace.{row_of_words, TraceQuestion, Run, question_in, asks, run_from}
-use Rattle.watch.proofs.Tracing.{Running, running-start, running-all, running-room, running-next, running-goes, running-fits, asks-questions, asks_none, asks-one}
+use Rattle.watch.specs.Trace.{row_of_words, TraceQuestion, question_in, asks, run_from}
+use Rattle.watch.proofs.Tracing.{Running, running-start, running-all, running-next, running-goes, running-fits, asks_none, asks-one}
 use Rattle.duty.specs.Desk.{in_turn, DeskAnswer, nobody, determined, passed_on, RowAnswer, TraceAnswers, no_more, one_more}
 use Rattle.duty.specs.Answering.{PutsAnswers}
 

@@ -1,7 +1,7 @@
 -- What refuses at the duty desk, in its order.
 -- Assumes nothing.
 use Prim.Native.Nat.{ℕ, zero, suc, ◌<◌, ◌≤◌}
-use mathlib.Core.Path.{◌≡◌, refl, sym, ap, subst, ◌∙◌}
+use mathlib.Core.Path.{◌≡◌, refl, sym, ap, ◌∙◌}
 use mathlib.Core.List.{List}
 use native.Mathlib.Omega.{arith}
 use borrow.Author.Tests.{lt-ltb, le-ltb}
@@ -11,14 +11,8 @@ use Rattle.sheet.specs.Refusals.{◌when◌otherwise◌, none, refuse, ◌then�
 use Rattle.sheet.specs.Rows.{header_of}
 use Rattle.sheet.specs.Verdict.{verdict}
 use Rattle.sheet.proofs.Refusing.{then-some-is, then-none-is}
-use Rattle.question.specs.declared.Answer.{Answer}
 use Rattle.question.specs.Asked.{plain}
-use Rattle.question.specs.Replies.{Replies, refused_by}
-use Rattle.question.proofs.Telling.{refuses}
-use Rattle.watch.specs.declared.Watch.{Watch}
-use Rattle.watch.specs.Trace.{stepped_on}
 use Rattle.duty.specs.Desk.{desk_fault, after_desk}
-use Rattle.duty.specs.Promises.{table_left, DeskStepsAfter, DeskSteps}
 
 module _ (s : List ℕ) (r : Refusal) (e : r ≡ verdict 1 s) where
   pub desk-bad : (r.number ≡ 0 → ⊥) → r ≡ desk_fault s

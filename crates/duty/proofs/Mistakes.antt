@@ -2,7 +2,7 @@
 -- Assumes nothing.
 use Prim.Native.Nat.{ℕ, zero, suc}
 use native.Mathlib.Omega.{arith}
-use mathlib.Core.Path.{◌≡◌, refl}
+use mathlib.Core.Path.{refl}
 use mathlib.Core.List.{List, [], ◌∷◌}
 use Rattle.tables.specs.Table.{rows_of}
 use Rattle.tables.specs.Office.{some_of, holds, held_by}
@@ -11,7 +11,7 @@ use Rattle.sheet.specs.Limits.{max_edges, edge_words, edge_place}
 use Rattle.sheet.specs.Rows.{header_of, node_at, edge_at}
 use Rattle.sheet.specs.Verdict.{header_fault, sheet_fault, node_fault, row_order, edge_shape, edge_fit, node_fault_at, edge_rest, edge_fault_at, rows_verdict, verdict}
 use Rattle.sheet.specs.Accepted.{Accepted}
-use Rattle.sheet.specs.Named.{node_row, edge_row, tables_of, held_at, seen_at}
+use Rattle.sheet.specs.Named.{node_row, edge_row, tables_of, seen_at}
 use Rattle.sheet.proofs.Accepting.{accepted}
 use Rattle.paths.specs.Leads.{leads}
 use Rattle.meaning.specs.Paths.{path, spell, is_path}

@@ -6,21 +6,21 @@ use mathlib.Core.Bool.{Bool, cond}
 use mathlib.Core.List.{List, [], ◌++◌}
 use native.Mathlib.Omega.{arith}
 use lib.ListN.{length, drop, replicate, length-replicate}
-use lib.Seq.{sets, sets-eq}
+use lib.Seq.{sets-eq}
 use borrow.Author.Tests.{eq-eqb}
 use Rattle.sheet.specs.declared.Refusal.{Refusal}
-use Rattle.sheet.specs.Refusals.{◌is◌, none, Gives}
+use Rattle.sheet.specs.Refusals.{none}
 use Rattle.sheet.specs.Named.{seen_at}
 use Rattle.sheet.proofs.Refusing.{refuse-plain}
 use Rattle.sheet.proofs.Writing.{gives-refused, gives-short, gives-written, gives_as}
 use Rattle.question.specs.declared.Answer.{Answer}
 use Rattle.question.specs.Asked.{plain}
 use Rattle.question.specs.Replies.{Replies, refused_by, tells}
-use Rattle.question.proofs.Telling.{refuses, reply-refused, reply-told, plain-none}
+use Rattle.question.proofs.Telling.{refuses, reply-refused, reply-told}
 use Rattle.watch.specs.declared.CountedTrace.{CountedTrace}
 use Rattle.watch.specs.declared.Moved.{Moved}
 use Rattle.watch.specs.declared.Watch.{Watch}
-use Rattle.watch.specs.Trace.{row_of_words, stepped_on, Run, run_from, counted_trace}
+use Rattle.watch.specs.Trace.{row_of_words, stepped_on, run_from, counted_trace}
 use Rattle.duty.specs.declared.TraceReply.{TraceReply}
 use Rattle.duty.specs.Desk.{RowAnswer, desk_fault, after_desk}
 use Rattle.duty.specs.Promises.{table_left, DeskStepsAfter, DeskSteps, refused_trace, TracesAfter, Traces}

@@ -17,7 +17,7 @@ use Rattle.question.proofs.Single.{replies-one}
 use Rattle.watch.specs.declared.TraceRow.{TraceRow}
 use Rattle.watch.specs.declared.Moved.{Moved}
 use Rattle.watch.specs.declared.Watch.{Watch}
-use Rattle.watch.specs.Trace.{TraceQuestion, row_of_words, stepped_on, Run, run_from}
+use Rattle.watch.specs.Trace.{TraceQuestion, row_of_words, stepped_on, run_from}
 use Rattle.duty.specs.declared.TraceReply.{TraceReply}
 use Rattle.duty.specs.Desk.{in_turn, RowAnswer, after_desk}
 use Rattle.duty.specs.Promises.{table_left, DeskSteps, refused_trace, Traces}

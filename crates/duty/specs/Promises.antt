@@ -7,8 +7,7 @@ use Rattle.sheet.specs.Named.{seen_at}
 use Rattle.question.specs.declared.Answer.{Answer}
 use Rattle.question.specs.Replies.{Replies}
 use Rattle.watch.specs.declared.Watch.{Watch}
-use Rattle.watch.specs.declared.Moved.{Moved}
-use Rattle.watch.specs.Trace.{Run, row_of_words, stepped_on, run_from}
+use Rattle.watch.specs.Trace.{row_of_words, stepped_on, run_from}
 use Rattle.duty.specs.declared.TraceReply.{TraceReply}
 use Rattle.duty.specs.Desk.{RowAnswer, TraceAnswers, after_desk}
 

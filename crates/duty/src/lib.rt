@@ -1,5 +1,6 @@
 // The duty desk: a row put to a lent table of emergencies, and a whole trace, over a sheet that has an office 2.
 #![tactic(auto)]
+
 ghost use Rattle.std.specs.Prelude.{◌≡◌, ◌+◌, ◌≤◌, [], length};
 ghost use Rattle.sheet.specs.Accepted.{WellFormed};
 ghost use Rattle.sheet.specs.Named.{seen_at};
@@ -14,7 +15,7 @@ use sheet::{Header, Refusal};
 use watch::{Routed, TraceRow, Watch};
 
 // What a step returns, and the table after it.
-#[derive(Drop)]
+#[derive(Clone, Copy)]
 pub struct SteppedTable {
     pub watch: Watch,
     pub answer: Answer,
@@ -22,7 +23,7 @@ pub struct SteppedTable {
 
 // A refusal's number and place, or number 0 with how many answers were written. A trace may have any length, and so its count.
 #[repr(C)]
-#[derive(Drop)]
+#[derive(Clone, Copy)]
 pub struct TraceReply {
     pub number: u32,
     pub sheet: u32,
