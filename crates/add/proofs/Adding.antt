@@ -2,13 +2,12 @@
 -- Assumes nothing.
 use Prim.Native.Nat.{ℕ, ◌+◌, ◌^◌, ◌<◌, ◌≤◌}
 use mathlib.Core.Path.{◌≡◌, refl, sym, ap, ap₂, subst, ◌∙◌}
-use mathlib.Core.Bool.{Bool, true, false, true≢false, not, ◌&&◌}
+use mathlib.Core.Bool.{true≢false}
 use mathlib.Core.List.{List}
 use native.Mathlib.Omega.{arith}
 use lib.Bits.{bit_or, or_comm, or_zero_l}
-use lib.ListN.{length}
-use Rattle.tables.specs.Count.{how_many, has}
-use Rattle.tables.specs.Key.{Key, relation}
+use Rattle.tables.specs.Count.{how_many}
+use Rattle.tables.specs.Key.{Key}
 use Rattle.tables.specs.Table.{Row, marks_at}
 use Rattle.tables.proofs.Counts.{many-most, many-none, has-row}
 use Rattle.tables.proofs.Keys.{one-row}

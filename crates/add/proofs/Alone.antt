@@ -1,14 +1,13 @@
 -- The row that is added, as a sheet of its own, is accepted, and has nothing else that the sheet lacks.
 -- Assumes nothing.
-use Prim.Native.Nat.{ℕ, zero, suc, ◌+◌, ◌<◌, ◌≤◌}
-use mathlib.Core.Path.{◌≡◌, refl, sym, ap, ap₂, subst, ◌∙◌}
-use mathlib.Core.Bool.{Bool, true, false}
+use Prim.Native.Nat.{ℕ, zero, suc, ◌<◌}
+use mathlib.Core.Path.{◌≡◌, refl, sym, ap, ◌∙◌}
+use mathlib.Core.Bool.{true}
 use mathlib.Core.List.{List, [], ◌++◌}
 use native.Mathlib.Omega.{arith}
 use native.Mathlib.Decide.{dec_lt}
 use lib.ListN.{length, length-append}
-use Rattle.tables.specs.Count.{has}
-use Rattle.tables.specs.Key.{Key, relation, below_key}
+use Rattle.tables.specs.Key.{Key}
 use Rattle.tables.specs.Marks.{within}
 use Rattle.tables.specs.Table.{Row, rows_of, marks_at}
 use Rattle.tables.proofs.Counts.{has-row}
@@ -16,17 +15,15 @@ use Rattle.tables.proofs.Keys.{rises}
 use Rattle.tables.proofs.Marks.{within_none, within-own}
 use Rattle.tables.proofs.Tables.{marks-none, marks-named, row_of}
 use Rattle.sheet.specs.declared.Cells.{Cells}
-use Rattle.sheet.specs.declared.Edge.{Edge}
 use Rattle.sheet.specs.declared.Half.{Half}
 use Rattle.sheet.specs.declared.Half.TheVariants.{Nodes, Edges}
 use Rattle.sheet.specs.declared.Header.{Header}
-use Rattle.sheet.specs.declared.Node.{Node}
-use Rattle.sheet.specs.Accepted.{NodeFits, EdgeShaped, EdgeFits, RowsRise, Accepted}
+use Rattle.sheet.specs.Accepted.{NodeFits, EdgeShaped, EdgeFits, Accepted}
 use Rattle.sheet.specs.Limits.{max_edges}
-use Rattle.sheet.specs.Named.{node_row, edge_row, row_at, tables_of}
-use Rattle.sheet.specs.Rows.{header_of, node_at, edge_table, node_key, edge_key, node_key_at, row_place, row_words, count_in, cells_in, as_node, as_edge, ends_fit}
+use Rattle.sheet.specs.Named.{node_row, row_at, tables_of}
+use Rattle.sheet.specs.Rows.{header_of, node_at, node_key, node_key_at, row_place, count_in, cells_in, as_node, as_edge}
 use Rattle.sheet.specs.Stored.{stored}
-use Rattle.sheet.proofs.Built.{built, built-header, RowsFit, built-accepted, built-node-row, built-edge-row}
+use Rattle.sheet.proofs.Built.{built-header, RowsFit, built-accepted, built-node-row, built-edge-row}
 use Rattle.sheet.proofs.Storing.{stored-long, cells-kept, cells-new}
 use Rattle.sheet.proofs.Widths.{place-start, place-next}
 use Rattle.combine.proofs.Reading.{half-own}

@@ -1,9 +1,9 @@
 -- The place that a search tells before a row is added is the row at which it stands then; and by the tables alone there is one sheet with the row more.
 -- Assumes nothing.
-use Prim.Native.Nat.{ℕ, suc, ◌<◌, ◌≤◌}
+use Prim.Native.Nat.{ℕ, suc, ◌<◌}
 use mathlib.Core.Path.{◌≡◌, refl, sym, ap, ap₂, subst, ◌∙◌}
 use mathlib.Core.Bool.{Bool, true, false, true≢false}
-use mathlib.Core.List.{List, ◌∷◌}
+use mathlib.Core.List.{List}
 use native.Mathlib.Omega.{arith}
 use native.Mathlib.Decide.{dec_lt}
 use Rattle.tables.specs.Count.{has, shared}
@@ -20,8 +20,8 @@ use Rattle.sheet.specs.declared.Half.TheVariants.{Nodes, Edges}
 use Rattle.sheet.specs.declared.Node.{Node}
 use Rattle.sheet.specs.Accepted.{RowsRise, Accepted}
 use Rattle.sheet.specs.Found.{PlaceIs}
-use Rattle.sheet.specs.Named.{node_row, edge_row, row_at, tables_of}
-use Rattle.sheet.specs.Rows.{header_of, node_at, edge_of, node_key, node_key_at, count_in, as_edge, edge_key, row_key, row_key_at}
+use Rattle.sheet.specs.Named.{node_row, edge_row, row_at}
+use Rattle.sheet.specs.Rows.{header_of, edge_of, node_key, node_key_at, count_in, as_edge, edge_key, row_key, row_key_at}
 use Rattle.sheet.proofs.Naming.{lower-named, marks-held}
 use Rattle.sheet.proofs.Whole.{same_nodes, sheet-alike}
 use Rattle.combine.proofs.Reading.{half-table}

@@ -1,6 +1,6 @@
 -- The row that is added as a sheet of its own, with the ends that it names: what the sheet is combined with.
 -- Assumes nothing.
-use Rattle.std.specs.Prelude.{ℕ, ◌<◌, ◌≡◌, Bool, true, cond, List, [], ◌++◌}
+use Rattle.std.specs.Prelude.{ℕ, ◌<◌, ◌≡◌, true, cond, List, [], ◌++◌}
 use Rattle.tables.specs.Count.{has}
 use Rattle.tables.specs.Key.{Key}
 use Rattle.tables.specs.Marks.{within}

@@ -1,5 +1,6 @@
 // Adding a row to a sheet: the sheet with one row more, at the place that a search tells, edge ends renumbered.
 #![tactic(auto)]
+
 ghost use Rattle.std.specs.Prelude.{◌≡◌, ◌<◌};
 ghost use Rattle.tables.specs.Count.{has};
 ghost use Rattle.sheet.specs.Accepted.{WellFormed};
