@@ -1,6 +1,6 @@
 -- How what was found is handed over.
 -- Assumes nothing.
-use Rattle.std.specs.Prelude.{ℕ, ◌+◌, ◌<◌, ◌≤◌, ◌≡◌, true, false, List, ◌++◌, length, take, drop}
+use Rattle.std.specs.Prelude.{ℕ, ◌<◌, ◌≤◌, ◌≡◌, true, false, List, ◌++◌, length, take, drop}
 use Rattle.question.specs.declared.Answer.{Answer}
 use Rattle.question.specs.Asked.{plain}
 use Rattle.question.specs.Replies.{refused_by, tells}

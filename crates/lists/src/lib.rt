@@ -1,5 +1,6 @@
 // Questions 5 to 10: the persons in a category, the holders of a right, the folios out of reach, the least triple that is Both, the least pair, and the redundant rows.
 #![tactic(auto)]
+
 ghost use Rattle.std.specs.Prelude.{◌≡◌, true, false, ◌&&◌, not, ◌<◌, ◌≤◌, length, take, drop, ◌++◌};
 ghost use Rattle.tables.specs.Count.{number_of};
 ghost use Rattle.tables.specs.Marks.{marked};

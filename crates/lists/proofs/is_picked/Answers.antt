@@ -1,0 +1,6 @@
+-- `lists::is_picked` meets its contract: the test is the contract's own, with the call's result in its place.
+use mathlib.Core.Path.{refl}
+use Rattle.lists.proofs.is_picked.Goals as goal
+
+pub returns : goal.returns
+returns c = rw (c.is_wanted-good.ensures, c.bears-marked.ensures) refl

@@ -1,0 +1,11 @@
+-- `lists::least_triple` meets its contract: it is question 8 of `sought`.
+use Rattle.lists.proofs.Picking.{office-alone}
+use mathlib.Core.Path.{refl, sym}
+use Rattle.lists.specs.Sought.{sought_is}
+use Rattle.lists.proofs.least_triple.Goals as goal
+
+pub returns : goal.returns
+unfolding sought_is
+returns c =
+    let S = c in
+    rw (sym (office-alone S.args.sheet.now S.args.q 8 refl refl refl)) c.sought.ensures
