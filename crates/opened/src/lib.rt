@@ -1,5 +1,6 @@
 // The opened sheet: the caller's words held in a struct, and asked many questions. Each question checks the words again.
 #![tactic(auto)]
+
 ghost use Rattle.std.specs.Prelude.{◌≡◌};
 ghost use Rattle.sheet.specs.Rows.{word, header_of};
 ghost use Rattle.claim.specs.Promises.{TellsPath};
@@ -9,7 +10,7 @@ use question::{Answer, Question};
 use sheet::Header;
 
 // A sheet that was opened: the caller's words, and the counts that its header names. No question looks at the counts.
-#[derive(Drop)]
+#[derive(Clone, Copy)]
 pub struct Opened<'a> {
     pub words: &'a [u32],
     pub nodes: u32,
@@ -17,7 +18,7 @@ pub struct Opened<'a> {
 }
 
 // Which question is asked: all but question 4, which is asked of a list.
-#[derive(Drop)]
+#[derive(Clone, Copy)]
 pub enum Which {
     AnswerAtOffice,
     JointAnswer,
