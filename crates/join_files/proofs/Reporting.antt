@@ -7,6 +7,7 @@ use mathlib.Core.List.{List, ◌++◌, append_assoc}
 use native.Mathlib.Omega.{arith}
 use lib.ListN.{length, take, drop, length-append}
 use lib.Seq.{length-take-le}
+use Rattle.std.proofs.lemmas.List.{take_all}
 use lib.Dec.{ltb}
 use borrow.Author.Tests.{lt-ltb, le-ltb, eq-eqb, ne_eqb}
 use Rattle.text.specs.Growing.{labelled, end_of_line, Grows}
@@ -40,15 +41,14 @@ module _ (report text line : List ℕ) (n : ℕ) (h : n ≤ length line) (e : ta
   pub report-short : length text < n → Reports report text 0 text
   report-short l = record { told = ap (λ (b : Bool). cond b 0 (length report)) (sym (lt-ltb (length text) (length report) (omega (arith, l, long)))); holds = refl }
 
-  pub report-whole : (r m : ℕ) (text' : List ℕ) → n ≤ length text → r ≡ length (take (n - 0) line) → m ≡ length (take (n - 0) line) → text' ≡ take m (take (n - 0) line) ++ drop m text → Reports report text r text'
-  report-whole r m text' l a b f =
+  pub report-whole : (t : List ℕ) → n ≤ length text → t ≡ take (n - 0) line → Reports report text n (t ++ drop (n - 0) text)
+  report-whole t l f =
       let z : n - 0 ≡ n = omega arith in
-      let p : take (n - 0) line ≡ report = ap (λ (i : ℕ). take i line) z ∙ e in
-      let q : m ≡ r = b ∙ sym a in
-      let s : r ≡ length report = a ∙ ap length p in
+      let p : t ≡ report = f ∙ ap (λ (i : ℕ). take i line) z ∙ e in
+      let q : take n report ≡ report = take_all n report (omega (arith, long)) in
       record {
-        told = s ∙ ap (λ (x : Bool). cond x 0 (length report)) (sym (le-ltb (length text) (length report) (omega (arith, l, long))));
-        holds = f ∙ (λ i. take (q i) (p i) ++ drop (q i) text);
+        told = long ∙ ap (λ (x : Bool). cond x 0 (length report)) (sym (le-ltb (length text) (length report) (omega (arith, l, long))));
+        holds = ap (λ (y : List ℕ). y ++ drop (n - 0) text) (p ∙ sym q) ∙ ap (λ (i : ℕ). take n report ++ drop i text) z;
       }
 
 -- what is told is a part of the text

@@ -1,5 +1,6 @@
 // Joining two files: the joint sheet's bytes, and the lines that say what was joined or refused. The joining program adds the files.
 #![tactic(auto)]
+
 ghost use Rattle.std.specs.Prelude.{◌≡◌, ◌/◌, ◌≤◌, length, take};
 ghost use Rattle.sheet.specs.Limits.{max_bytes};
 ghost use Rattle.files.specs.Bytes.{words_of};
@@ -99,5 +100,6 @@ pub fn report(j: Joined, text: &mut [u8]) -> usize
     if text.len() < n {
         return 0;
     }
-    bytes::copy(&line[0..n], text)
+    text[0..n].copy_from_slice(&line[0..n]);
+    n
 }
