@@ -1,5 +1,6 @@
 // The counter: what a program in C or Rust calls. Questions 1 to 3 and the check are asked of a file's bytes, and every other function of a sheet's words.
 #![tactic(auto)]
+
 ghost use Rattle.std.specs.Prelude.{◌≡◌, [], ◌∷◌, length};
 ghost use Rattle.tables.specs.Key.{identity};
 ghost use Rattle.sheet.specs.Limits.{max_words};
@@ -58,13 +59,7 @@ fn read(file: &[u8], words: &mut [u32]) -> Refusal
 }
 
 // Question 1 of a file's bytes, the answer at an office: 0 Undetermined, 1 Granted, 2 Banned, 3 Both, in `value`.
-pub fn tormukai_answer(
-    file: &[u8],
-    office: u32,
-    person: u32,
-    deed: u32,
-    folio: u32,
-) -> Answer
+pub fn tormukai_answer(file: &[u8], office: u32, person: u32, deed: u32, folio: u32) -> Answer
     ensures { AnswersAtOffice (after_file file.now) (words_of file.now) (asking office 0 0 person deed folio) result }
 {
     let mut words = [0u32; MAX_WORDS];
@@ -87,13 +82,7 @@ pub fn tormukai_answer(
 }
 
 // Question 2 of a file's bytes, the joint answer under rule 1, 2 or 3: the answer in `value`, the deciding office in `count`.
-pub fn tormukai_joint_answer(
-    file: &[u8],
-    rule: u32,
-    person: u32,
-    deed: u32,
-    folio: u32,
-) -> Answer
+pub fn tormukai_joint_answer(file: &[u8], rule: u32, person: u32, deed: u32, folio: u32) -> Answer
     ensures { AnswersJointly (after_file file.now) (words_of file.now) (asking 0 rule 0 person deed folio) result }
 {
     let mut words = [0u32; MAX_WORDS];
@@ -326,11 +315,7 @@ pub fn tormukai_persons_with_grant(
 }
 
 // Question 7, the numbers of the folios to which no person has a grant path, rising; how many in `count`.
-pub fn tormukai_folios_out_of_reach(
-    sheet: &[u32],
-    office: u32,
-    out: &mut [u32],
-) -> Answer
+pub fn tormukai_folios_out_of_reach(sheet: &[u32], office: u32, out: &mut [u32]) -> Answer
     ensures { ListsFoliosOutOfReach sheet.now (seeking office 0 0 0 0) out.old result out.new }
 {
     let q = Question {
@@ -526,12 +511,7 @@ pub fn tormukai_write_listing(sheet: &[u32], out: &mut [u8]) -> Listing
 }
 
 // Puts a row of a trace to the duty desk's table: the answer in `value`, and in `count` how many offices its question went to. A refused row leaves the table as it was.
-pub fn tormukai_step(
-    watch: &mut Watch,
-    sheet: &[u32],
-    timeout: u32,
-    row: &[u32],
-) -> Answer
+pub fn tormukai_step(watch: &mut Watch, sheet: &[u32], timeout: u32, row: &[u32]) -> Answer
     ensures { DeskSteps sheet.now timeout row.now watch.old result watch.new }
 {
     let s = duty::step_by_value(*watch, sheet, timeout, row);
@@ -540,12 +520,7 @@ pub fn tormukai_step(
 }
 
 // A whole trace of the duty desk, with its own empty table: one answer for each question; how many in `count`.
-pub fn tormukai_trace(
-    sheet: &[u32],
-    timeout: u32,
-    rows: &[u32],
-    out: &mut [u32],
-) -> TraceReply
+pub fn tormukai_trace(sheet: &[u32], timeout: u32, rows: &[u32], out: &mut [u32]) -> TraceReply
     ensures { Traces sheet.now timeout rows.now out.old result out.new }
 {
     duty::trace(sheet, timeout, rows, out)
