@@ -67,18 +67,26 @@ def ready(crate):
             sys.exit(f'{each.name} is not proved')
 
 
-def archive(name):
-    """Proves a static library and makes its archive, as rt lib does; right after rt ci over the libraries that it left."""
+def built(crate, toolchain, out):
+    """Proves a static library over the libraries that stand below it, and compiles it. The exit status is rattle's."""
+    words = [*crate.words(['--jobs', '2'], keeps=False), '--toolchain', toolchain, '--backend', 'llvm', '-o', out]
+    return crate.call(rt().rtlib.RATTLE, 'build', *words)
+
+
+def archive(name, toolchain='', out=''):
+    """Proves a static library and makes its archive, as rt lib does; right after rt ci over the libraries that it left.
+    With another toolchain than the kit's, it is made elsewhere."""
     crate = next(each for each in crates() if each.name == name)
-    if is_left(crate):
-        words = crate.words(['--jobs', '2'], keeps=False)
-        if not crate.call(rt().rtlib.RATTLE, 'build', *words, '--toolchain', f'{home()}/toolchain', '--backend', 'llvm', '-o', f'out/lib{name}.a'):
-            return 0
+    if toolchain:
+        ready(crate)
+        return built(crate, toolchain, out)
+    if is_left(crate) and not built(crate, f'{home()}/toolchain', f'out/lib{name}.a'):
+        return 0
     return subprocess.run(['rt', 'lib'], cwd=crate.folder, check=False).returncode
 
 
 def main(verb, *words):
-    """tools/kit.py note, or tools/kit.py archive NAME"""
+    """tools/kit.py note, or tools/kit.py archive NAME [TOOLCHAIN OUT]"""
     return note() if verb == 'note' else archive(*words)
 
 
