@@ -2,12 +2,12 @@
 -- Assumes nothing.
 use Prim.Native.Nat.{ℕ, zero, suc, ◌+◌, ◌<◌, ◌≤◌}
 use mathlib.Core.Path.{◌≡◌, refl, sym, ap, ap₂, subst, ◌∙◌}
-use mathlib.Core.Bool.{Bool, true, false, true≢false, not, ◌&&◌, ◌||◌}
+use mathlib.Core.Bool.{Bool, true, false, not, ◌&&◌, ◌||◌}
 use mathlib.Core.List.{List}
 use mathlib.Core.Logic.{◌↔◌}
 use native.Mathlib.Omega.{arith}
 use lib.Dec.{ltb, T}
-use lib.ListN.{length, take}
+use lib.ListN.{length}
 use Rattle.tables.specs.Count.{number_of}
 use Rattle.tables.specs.Key.{Key, same_key}
 use Rattle.tables.specs.Marks.{marked}
@@ -18,25 +18,24 @@ use Rattle.tables.proofs.Counts.{some_at, some-row}
 use Rattle.sheet.specs.declared.Cells.{Cells}
 use Rattle.sheet.specs.declared.Half.{Half}
 use Rattle.sheet.specs.declared.Half.TheVariants.{Nodes, Edges}
-use Rattle.sheet.specs.declared.Node.{Node}
 use Rattle.sheet.specs.declared.Refusal.{Refusal}
-use Rattle.sheet.specs.Accepted.{MarksFit, Accepted}
+use Rattle.sheet.specs.Accepted.{Accepted}
 use Rattle.sheet.specs.Kinds.{person_type, deed_type, folio_type}
-use Rattle.sheet.specs.Named.{node_row, row_at, held_at, seen_at, tables_of}
+use Rattle.sheet.specs.Named.{node_row, held_at, seen_at}
 use Rattle.sheet.specs.Refusals.{◌when◌otherwise◌, refuse}
-use Rattle.sheet.specs.Rows.{header_of, node_at, node_key_at, count_in, row_words, row_key, row_key_at, as_node, as_edge}
+use Rattle.sheet.specs.Rows.{header_of, node_at, node_key_at, count_in, row_words, row_key, as_node, as_edge}
 use Rattle.sheet.specs.Verdict.{verdict, edge_fault}
 use Rattle.sheet.proofs.Accepting.{accepted, not-refused, node-good, fit-good}
 use Rattle.sheet.proofs.Refusing.{then-good, then-none, else-good, else-none, line-good, line-none}
 use Rattle.sheet.proofs.Whole.{same_nodes}
 use Rattle.meaning.specs.Paths.{Side, HasPath}
 use Rattle.meaning.specs.Answers.{AnswerIs}
-use Rattle.meaning.specs.Added.{table_in, other_half, key_named, held_in, IsAdded}
+use Rattle.meaning.specs.Added.{table_in, other_half, key_named, held_in}
 use Rattle.meaning.proofs.Sparing.{answer-spared, same-edges-path}
 use Rattle.question.specs.declared.Question.{Question}
 use Rattle.question.specs.declared.Answer.{Answer}
 use Rattle.question.specs.Asked.{asked, stands, known, unknown, bad_office, ask_fault, plain, after_sheet}
-use Rattle.question.specs.Replies.{tells, Replies, refused, answered}
+use Rattle.question.specs.Replies.{tells, refused, answered}
 use Rattle.question.proofs.Known.{ask-same}
 use Rattle.question.proofs.Single.{replies-one}
 use Rattle.question.proofs.Telling.{plain-none}
@@ -44,12 +43,11 @@ use Rattle.ask.specs.Promises.{AnswersAtOffice}
 use Rattle.ask.proofs.Single.{answer-single}
 use Rattle.find.specs.Promises.{TellsPlace}
 use Rattle.add.specs.Adding.{add_fault, AddedAt, AddsRow}
-use Rattle.add.proofs.Adding.{EndsIn, ends-in, no-marks}
+use Rattle.add.proofs.Adding.{ends-in, no-marks}
 use Rattle.add.proofs.Alone.{table-marks}
 use Rattle.add.proofs.Having.{one-row-more, no-row-more, row-longer, holds_row, holds-rest}
 use Rattle.add.proofs.Placing.{marked_row, row-marked, place_kept, stands-then, added-one}
 use Rattle.add.proofs.Showing.{Good, fault-good, shown-row, row-shown}
-use Rattle.demands.specs.Demands.{front}
 use Rattle.demands.specs.Additions.{WasAdded, Additions}
 use Rattle.demands.proofs.JointPlaces.{place-joined}
 use Rattle.demands.proofs.Pruned.{replies-as, after_same}

@@ -3,10 +3,9 @@
 use Prim.Native.Nat.{ℕ}
 use native.Mathlib.Omega.{arith}
 use mathlib.Core.Path.{◌≡◌, refl}
-use mathlib.Core.Bool.{true, false, false≢true, true≢false}
+use mathlib.Core.Bool.{false, false≢true, true≢false}
 use mathlib.Core.List.{List, [], ◌∷◌}
 use mathlib.Core.Logic.{◌↔◌}
-use lib.ListN.{length}
 use Rattle.tables.specs.Count.{some_row}
 use Rattle.tables.specs.Table.{rows_of}
 use Rattle.tables.specs.Office.{some_of, holds, held_by}

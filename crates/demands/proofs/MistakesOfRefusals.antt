@@ -1,6 +1,6 @@
 -- Each wrong line that a must-fail edit puts into demand 1, under the edit's name, and a result that the entries' promises allow and for which it is false.
 -- Assumes nothing.
-use Prim.Native.Nat.{ℕ, ◌≤◌, ◌<◌}
+use Prim.Native.Nat.{ℕ, ◌≤◌}
 use native.Mathlib.Omega.{arith}
 use mathlib.Core.Path.{◌≡◌, refl, ap}
 use mathlib.Core.Bool.{true, false}

@@ -1,10 +1,9 @@
 -- The duty desk's promises, of a step's and a trace's own statements.
 -- Assumes nothing.
-use Prim.Native.Nat.{ℕ, zero, suc, ◌+◌, ◌<◌, ◌≤◌}
+use Prim.Native.Nat.{ℕ, zero, suc, ◌<◌, ◌≤◌}
 use mathlib.Core.Path.{◌≡◌, refl, sym, ap, ap₂, subst, ◌∙◌}
 use mathlib.Core.Bool.{Bool, true, false, cond, ◌&&◌}
 use mathlib.Core.List.{List, [], ◌∷◌, ◌++◌}
-use mathlib.Core.Logic.{◌↔◌}
 use native.Mathlib.Omega.{arith}
 use lib.Dec.{ltb, eqb}
 use lib.ListN.{length, take, drop}
@@ -13,7 +12,7 @@ use borrow.Author.Tests.{eq-eqb, ne_eqb, eqb-true, eqb-false, ltb-true, ltb-fals
 use Rattle.paths.proofs.Tests.{and_left, and_right}
 use Rattle.tables.specs.Office.{View}
 use Rattle.sheet.specs.declared.Refusal.{Refusal}
-use Rattle.sheet.specs.Refusals.{◌is◌, ◌when◌otherwise◌, none, refuse, ◌then◌, short}
+use Rattle.sheet.specs.Refusals.{◌when◌otherwise◌, none, refuse, ◌then◌, short}
 use Rattle.sheet.specs.Named.{seen_at}
 use Rattle.sheet.proofs.Refusing.{refuse-good, then-good, then-some-is}
 use Rattle.sheet.proofs.Writing.{gives-counted}
@@ -24,9 +23,9 @@ use Rattle.watch.specs.declared.TraceRow.{TraceRow}
 use Rattle.watch.specs.declared.Routed.{Routed}
 use Rattle.watch.specs.declared.Moved.{Moved}
 use Rattle.watch.specs.declared.Watch.{Watch}
-use Rattle.watch.specs.History.{is_open, held_folios, last_from, bad_row, refusal, offices_for, routed, grown, HeldBy}
-use Rattle.watch.specs.WatchTable.{doubled, refused_row, advanced, empty_watch, TableStands}
-use Rattle.watch.specs.Trace.{row_of_words, stepped_on, TraceQuestion, Run, question_in, after_questions, next_routed, cut_short_run, run_from}
+use Rattle.watch.specs.History.{is_open, held_folios, last_from, bad_row, refusal, offices_for, routed, grown}
+use Rattle.watch.specs.WatchTable.{doubled, refused_row, empty_watch, TableStands}
+use Rattle.watch.specs.Trace.{row_of_words, stepped_on, Run, question_in, after_questions, next_routed, run_from}
 use Rattle.watch.proofs.Tests.{by_cases}
 use Rattle.watch.proofs.Meaning.{held_by_lem, by-held}
 use Rattle.watch.proofs.Past.{held-listed, held-once}
@@ -35,7 +34,7 @@ use Rattle.watch.proofs.Stepping.{stepped-five, stepped-row, stepped-cut, steppe
 use Rattle.watch.proofs.Tracing.{grown-on, asks_none, asks-one, long-row, cut_by}
 use Rattle.duty.specs.declared.TraceReply.{TraceReply}
 use Rattle.duty.specs.Desk.{RowAnswer, TraceAnswers, no_more, one_more, desk_fault, after_desk}
-use Rattle.duty.specs.Promises.{table_left, DeskSteps, refused_trace, Traces}
+use Rattle.duty.specs.Promises.{DeskSteps, refused_trace, Traces}
 use Rattle.duty.proofs.Answers.{trace-answers-one, answers-many, answers-append}
 use Rattle.duty.proofs.Desking.{desk-passes}
 use Rattle.duty.proofs.Promising.{table_stays, table-moves}
