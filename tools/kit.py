@@ -10,6 +10,8 @@ import subprocess
 import sys
 
 TOP = pathlib.Path(__file__).resolve().parent.parent
+# The library runs on every x86-64 processor, as it always did; the kit's own choice is a newer one.
+PROCESSOR = ['--cpu', 'x86-64']
 NOTED = TOP / 'target' / 'proved'
 
 
@@ -69,7 +71,7 @@ def ready(crate):
 
 def built(crate, toolchain, out):
     """Proves a static library over the libraries that stand below it, and compiles it. The exit status is rattle's."""
-    words = [*crate.words(['--jobs', '2'], keeps=False), '--toolchain', toolchain, '--backend', 'llvm', '-o', out]
+    words = [*crate.words(['--jobs', '2', *PROCESSOR], keeps=False), '--toolchain', toolchain, '--backend', 'llvm', '-o', out]
     return crate.call(rt().rtlib.RATTLE, 'build', *words)
 
 
@@ -82,7 +84,7 @@ def archive(name, toolchain='', out=''):
         return built(crate, toolchain, out)
     if is_left(crate) and not built(crate, f'{home()}/toolchain', f'out/lib{name}.a'):
         return 0
-    return subprocess.run(['rt', 'lib'], cwd=crate.folder, check=False).returncode
+    return subprocess.run(['rt', 'lib', *PROCESSOR], cwd=crate.folder, check=False).returncode
 
 
 def main(verb, *words):

@@ -2,14 +2,16 @@
 //! seed and its number alone; the questions come after the checks, 5 to 10 after
 //! 1 to 4, then the lookup, then joining and taking out, then the other ways to
 //! questions 1 to 3, then the listings, then rows searched and added, then traces, then
-//! sheets built row by row, then the removals, so their numbers follow from how many there
-//! are before them.
+//! questions 1 to 4 on full sheets, then sheets built row by row, then the removals, so
+//! their numbers follow from how many there are before them.
 
 use crate::cases::built::{self, Built};
 use crate::cases::checks::Checks;
 use crate::cases::removals::{self, Removals};
 use crate::cases::series::{Made, Series};
-use crate::cases::{additions, joins, listings, lookups, questions, surveys, traces, ways};
+use crate::cases::{
+    additions, full_sheets, joins, listings, lookups, questions, surveys, traces, ways,
+};
 use crate::goals;
 use crate::goals::coverage::{self, Cell};
 use crate::trial::expect::expect;
@@ -106,8 +108,8 @@ impl Counts {
 pub struct Plan {
     checks: Checks,
     /// Questions 1 to 4, 5 to 10, the lookup, joining and taking out, the other ways,
-    /// the listings, rows searched and added, traces.
-    series: [Series; 8],
+    /// the listings, rows searched and added, traces, full sheets.
+    series: [Series; 9],
     built: Built,
     pub removals: Removals,
 }
@@ -125,6 +127,7 @@ impl Plan {
                 listings::series(seed, counts.listings),
                 additions::series(seed, counts.additions),
                 traces::series(seed, counts.traces),
+                full_sheets::series(seed),
             ],
             built: Built::new(seed, counts.built),
             removals: Removals::new(seed, counts.removals),
@@ -166,6 +169,10 @@ impl Plan {
 
     pub fn before_traces(&self) -> usize {
         self.before(7)
+    }
+
+    pub fn before_full_sheets(&self) -> usize {
+        self.before(8)
     }
 
     pub fn before_built(&self) -> usize {

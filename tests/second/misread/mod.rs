@@ -4,6 +4,7 @@
 
 pub mod addition_refusals;
 pub mod additions;
+pub mod full_sheets;
 pub mod join_refusals;
 pub mod joins;
 pub mod lines;

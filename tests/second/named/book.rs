@@ -146,10 +146,26 @@ impl Book {
         let (short, length) = (Says::Refused(25, 0, 0), path.len());
         self.with_room(&format!("{name}, exactly enough room"), sheet, numbers, length, says());
         self.with_room(&format!("{name}, one word to spare"), sheet, numbers, length + 1, says());
-        let name_short = format!("{name}, one word short");
-        self.with_room(&name_short, sheet, numbers, length - 1, short.clone());
+        self.one_word_short(name, sheet, numbers, path);
         self.with_room(&format!("{name}, no room"), sheet, numbers, 0, short);
         self.listed(&format!("{name}, as a list"), sheet, numbers, path, true);
+    }
+
+    /// With just enough room alone: for sheets on which a path takes long.
+    pub fn witness_alone(&mut self, name: &str, sheet: &Sheet, numbers: [u32; 5], path: &[u32]) {
+        self.with_room(name, sheet, numbers, path.len(), Says::Written(path.to_vec()));
+    }
+
+    /// With so much room alone.
+    pub fn no_path_alone(&mut self, name: &str, sheet: &Sheet, numbers: [u32; 5], room: usize) {
+        let name = format!("{name}, no path");
+        self.with_room(&name, sheet, numbers, room, Says::Refused(26, 0, 0));
+    }
+
+    /// With a word less than the path has.
+    pub fn one_word_short(&mut self, name: &str, sheet: &Sheet, numbers: [u32; 5], path: &[u32]) {
+        let name = format!("{name}, one word short");
+        self.with_room(&name, sheet, numbers, path.len() - 1, Says::Refused(25, 0, 0));
     }
 
     /// Whatever the room: 26 comes before 25.

@@ -59,7 +59,7 @@ pub fn write(sort: Seeds, seed: u64, folder: &str) -> Tally {
         Seeds::Files => plan.before_ways()..plan.before_listings(),
         Seeds::Texts | Seeds::Lines => plan.before_listings()..plan.before_additions(),
         Seeds::Rows => plan.before_additions()..plan.before_traces(),
-        Seeds::Traces | Seeds::Lent => plan.before_traces()..plan.before_built(),
+        Seeds::Traces | Seeds::Lent => plan.before_traces()..plan.before_full_sheets(),
     };
     let seeds_of = match sort {
         Seeds::Files => of_counter,

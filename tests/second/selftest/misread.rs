@@ -42,7 +42,7 @@ pub fn told_apart<'a, A: Asked + 'a>(
                 told(&case.request, (version.read)(asked)) != case.expected
             });
             let name = format!("told apart in operation {operation}: {}", version.name);
-            tally.test(&name, shown.count() >= enough);
+            tally.test(&name, shown.take(enough).count() == enough);
         }
     }
 }

@@ -7,6 +7,7 @@ pub mod additions;
 pub mod benchmark;
 pub mod checks;
 pub mod counted;
+pub mod full_sheets;
 pub mod joins;
 pub mod listings;
 pub mod lookups;
@@ -38,6 +39,7 @@ pub fn run() -> Tally {
     additions::run(&mut tally);
     traces::run(&mut tally);
     tables::run(&mut tally);
+    full_sheets::run(&mut tally);
     removals::run(&mut tally);
     benchmark::run(&mut tally);
     tally

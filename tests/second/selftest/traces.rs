@@ -30,7 +30,10 @@ pub fn run(tally: &mut Tally) {
     held_by_hand(tally);
     replies(tally);
     selftest::named::run(tally, "traces", &named::traces::all(), Plan::before_traces);
-    repeatable(tally, "trace", Plan::before_built, |cases| Counts { traces: cases / LEGS, ..NONE });
+    repeatable(tally, "trace", Plan::before_full_sheets, |cases| Counts {
+        traces: cases / LEGS,
+        ..NONE
+    });
     one_by_one(tally);
     made_cases(tally);
 }
@@ -152,7 +155,8 @@ fn one_by_one(tally: &mut Tally) {
 fn made_cases(tally: &mut Tally) {
     let plan = Plan::new(1, Counts { traces: CASES, ..NONE });
     let first = plan.before_traces() + named::traces::all().len();
-    let all: Vec<Case> = (first..plan.before_built()).map(|number| plan.case(number)).collect();
+    let all: Vec<Case> =
+        (first..plan.before_full_sheets()).map(|number| plan.case(number)).collect();
     let slips = all.iter().filter(|case| case.about.own_fault.is_some()).count();
     tally.test("no trace misses its aim", slips == 0);
     let kinds: BTreeSet<&str> = all.iter().map(|case| case.about.kind).collect();
