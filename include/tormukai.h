@@ -271,7 +271,7 @@ TormukaiAnswer tormukai_joint_answer(const uint8_t *file, size_t file_length, ui
  * Answers: count the bytes written. Writes: the path, for each node its number and its variant, four bytes each, low byte
  * first: eight bytes a node, the person first, then the categories, the deed, the folio.
  * Refuses with: 33, 1 to 17, 20, 21, 22, 23, 26 (no such path), 25 (out_length is under the path's bytes).
- * Stack: at most 67,584 bytes. */
+ * Stack: at most 64,512 bytes. */
 TormukaiAnswer tormukai_witness(const uint8_t *file, size_t file_length, uint32_t office, uint32_t kind, uint32_t person,
                                 uint32_t deed, uint32_t folio, uint8_t *out, size_t out_length);
 
@@ -308,7 +308,7 @@ TormukaiAnswer tormukai_sheet_joint_answer(const uint32_t *sheet, size_t sheet_l
 /* Question 3, as tormukai_witness, but the path comes as words.
  * Answers: count the words written. Writes: the path, for each node its number and its variant, the person first.
  * Refuses with: 1 to 17, 20, 21, 22, 23, 26 (no such path), 25.
- * Stack: at most 21,504 bytes. */
+ * Stack: at most 19,456 bytes. */
 TormukaiAnswer tormukai_sheet_witness(const uint32_t *sheet, size_t sheet_length, uint32_t office, uint32_t kind,
                                       uint32_t person, uint32_t deed, uint32_t folio, uint32_t *out, size_t out_length);
 
@@ -321,25 +321,25 @@ TormukaiAnswer tormukai_is_path(const uint32_t *sheet, size_t sheet_length, uint
 
 /* Question 5: who is in a category at an office, directly or through containment?
  * Answers: count the words written. Writes: the persons' numbers, rising. Refuses with: 1 to 17, 20, 24, 25.
- * Stack: at most 69,632 bytes. */
+ * Stack: at most 62,464 bytes. */
 TormukaiAnswer tormukai_persons_in_category(const uint32_t *sheet, size_t sheet_length, uint32_t office, uint32_t category,
                                             uint32_t *out, size_t out_length);
 
 /* Question 6: who has a grant path for the deed and the folio at an office?
  * Answers: count the words written. Writes: the persons' numbers, rising. Refuses with: 1 to 17, 20, 22, 23, 25.
- * Stack: at most 69,632 bytes. */
+ * Stack: at most 62,464 bytes. */
 TormukaiAnswer tormukai_persons_with_grant(const uint32_t *sheet, size_t sheet_length, uint32_t office, uint32_t deed,
                                            uint32_t folio, uint32_t *out, size_t out_length);
 
 /* Question 7: to which folios has no person a grant path by any deed, at an office?
  * Answers: count the words written. Writes: the folios' numbers, rising. Refuses with: 1 to 17, 20, 25.
- * Stack: at most 61,440 bytes. */
+ * Stack: at most 56,320 bytes. */
 TormukaiAnswer tormukai_folios_out_of_reach(const uint32_t *sheet, size_t sheet_length, uint32_t office, uint32_t *out,
                                             size_t out_length);
 
 /* Question 8: the least triple that is both granted and banned at an office; persons are compared first, then deeds.
  * Answers: count 3. Writes: person, deed, folio. Refuses with: 1 to 17, 20, 26 (there is none), 25.
- * Stack: at most 50,176 bytes. */
+ * Stack: at most 46,080 bytes. */
 TormukaiAnswer tormukai_least_triple(const uint32_t *sheet, size_t sheet_length, uint32_t office, uint32_t *out,
                                      size_t out_length);
 
@@ -347,7 +347,7 @@ TormukaiAnswer tormukai_least_triple(const uint32_t *sheet, size_t sheet_length,
  * compared first.
  * Answers: count 2. Writes: person, folio.
  * Refuses with: 1 to 17, 20, 22, 31 (the deeds are equal), 26 (there is none), 25.
- * Stack: at most 50,176 bytes. */
+ * Stack: at most 46,080 bytes. */
 TormukaiAnswer tormukai_least_holder(const uint32_t *sheet, size_t sheet_length, uint32_t office, uint32_t deed,
                                      uint32_t other, uint32_t *out, size_t out_length);
 
@@ -355,7 +355,7 @@ TormukaiAnswer tormukai_least_holder(const uint32_t *sheet, size_t sheet_length,
  * office changes; two may each be the reason for the other, so ask again after each.
  * Answers: count the words written. Writes: their indices in the edge table, from 0, rising.
  * Refuses with: 1 to 17, 20, 25.
- * Stack: at most 50,176 bytes. */
+ * Stack: at most 46,080 bytes. */
 TormukaiAnswer tormukai_redundant_edges(const uint32_t *sheet, size_t sheet_length, uint32_t office, uint32_t *out,
                                         size_t out_length);
 
@@ -449,7 +449,7 @@ TormukaiListing tormukai_read_listing(const uint8_t *text, size_t text_length, u
  * Answers: count the bytes written. Writes: the text, every line with its line feed, and no zero at the end.
  * Refuses with: 1 to 17, 28 (at sheet 1: the sheet has two offices; take one out first), 25 (out_length is under the text's
  * bytes; with TORMUKAI_LISTING_BYTES it does not occur).
- * Stack: at most 768 bytes. */
+ * Stack: at most 704 bytes. */
 TormukaiListing tormukai_write_listing(const uint32_t *sheet, size_t sheet_length, uint8_t *out, size_t out_length);
 
 /* What does one line of a listing say? The line comes without its line feed: with one it is none of the nine.

@@ -370,6 +370,7 @@ fn write_nodes(sheet: &[u32], h: Header, rows: [u32; ROWS], n: usize, out: &mut 
 }
 
 // The rows of the best path from the person's row on, in front.
+#[inline(never)]
 fn path_rows(
     sheet: &[u32],
     edges: &[u32],

@@ -43,9 +43,10 @@ fn start_number(r: Node, v: u32, number: u32) -> u32
 }
 
 // 1 at the deed rows of a number that are marked in d, 0 at every other row.
-fn deed_starts(sheet: &[u32], h: Header, d: [u32; ROWS], number: u32) -> [u32; ROWS]
-    requires { NodesFormed sheet.now h × (length d ≡ max_nodes) }
-    ensures { DeedStarts sheet.now h.nodes d number result }
+#[inline(never)]
+fn deed_starts(sheet: &[u32], h: Header, d: &[u32], number: u32) -> [u32; ROWS]
+    requires { NodesFormed sheet.now h × (length d.now ≡ max_nodes) }
+    ensures { DeedStarts sheet.now h.nodes d.now number result }
 {
     let mut starts = [0u32; ROWS];
     let n = h.nodes;
@@ -72,7 +73,7 @@ fn rows_by_deed(
     requires { WellFormed sheet.now edges.now h × Seated w.seat × Arranged sheet.now edges.now h w index.now × (length d ≡ max_nodes) }
     ensures { RowsByDeed sheet.now edges.now h w d number result }
 {
-    let mut rows = deed_starts(sheet, h, d, number);
+    let mut rows = deed_starts(sheet, h, &d, number);
     walk::run(sheet, edges, h, w, index, &mut rows);
     rows
 }

@@ -129,6 +129,7 @@ fn persons_reaching(
 }
 
 // The numbers of the persons of the seat's office from whose rows the grants' walk for a deed leads to a row, rising.
+#[inline(always)]
 fn persons_to(
     sheet: &[u32],
     edges: &[u32],
@@ -149,6 +150,7 @@ fn persons_to(
 }
 
 // Question 5 from the seat: the persons in a category that its office knows.
+#[inline(never)]
 fn persons_in_category_at(
     sheet: &[u32],
     edges: &[u32],
@@ -165,6 +167,7 @@ fn persons_in_category_at(
 }
 
 // Question 6 from the seat: the persons with a grant path for a deed and a folio that its office knows.
+#[inline(never)]
 fn persons_with_grant_at(
     sheet: &[u32],
     edges: &[u32],
