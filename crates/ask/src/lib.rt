@@ -369,7 +369,7 @@ fn write_nodes(sheet: &[u32], h: Header, rows: [u32; ROWS], n: usize, out: &mut 
     }
 }
 
-// The rows of the best path from the person's row on, in front.
+// The rows of the best path from the person's row on, in front. Not inlined: its arrays would be on the stack beside the walk's.
 #[inline(never)]
 fn path_rows(
     sheet: &[u32],

@@ -42,7 +42,7 @@ fn start_number(r: Node, v: u32, number: u32) -> u32
     0
 }
 
-// 1 at the deed rows of a number that are marked in d, 0 at every other row.
+// 1 at the deed rows of a number that are marked in d, 0 at every other row. Not inlined: its array would be on the stack beside the walk's.
 #[inline(never)]
 fn deed_starts(sheet: &[u32], h: Header, d: &[u32], number: u32) -> [u32; ROWS]
     requires { NodesFormed sheet.now h × (length d.now ≡ max_nodes) }

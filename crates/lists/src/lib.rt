@@ -128,7 +128,7 @@ fn persons_reaching(
     m
 }
 
-// The numbers of the persons of the seat's office from whose rows the grants' walk for a deed leads to a row, rising.
+// The numbers of the persons of the seat's office from whose rows the grants' walk for a deed leads to a row, rising. Inlined: its arrays then share their places on the stack.
 #[inline(always)]
 fn persons_to(
     sheet: &[u32],
@@ -149,7 +149,7 @@ fn persons_to(
     numbers_of(sheet, h, seat, PERSON, true, m, list)
 }
 
-// Question 5 from the seat: the persons in a category that its office knows.
+// Question 5 from the seat: the persons in a category that its office knows. Not inlined, nor the next: their arrays would be on the stack at once.
 #[inline(never)]
 fn persons_in_category_at(
     sheet: &[u32],
