@@ -24,12 +24,11 @@ use Rattle.sheet.specs.Verdict.{edge_fault}
 use Rattle.sheet.proofs.Accepting.{shape-good}
 use Rattle.sheet.proofs.Forming.{formed-of}
 use Rattle.sheet.proofs.Refusing.{else-good}
-use Rattle.combine.specs.declared.Measure.{Measure}
 use Rattle.combine.specs.declared.Rule.TheVariants.{Either}
 use Rattle.combine.specs.Combined.{Making, first_stays, second_stays, rows_kept}
 use Rattle.combine.specs.Halves.{kept_rows}
 use Rattle.combine.specs.Rules.{makes}
-use Rattle.combine.specs.Sheets.{IsCombined, Pair, Measured}
+use Rattle.combine.specs.Sheets.{IsCombined, Pair}
 use Rattle.combine.proofs.Reading.{half-low}
 use Rattle.combine.proofs.Ruling.{either-pair}
 use Rattle.meaning.specs.Added.{table_in, other_half, key_named, IsAdded}
@@ -117,12 +116,8 @@ module _ (half : Half) (s : List ℕ) (v : Accepted s) (c : Cells) (g : Good hal
   both-few Nodes a b r = (omega (arith, a, r), omega (arith, b, v.nodes.header.edges))
   both-few Edges a b r = (omega (arith, b, v.nodes.header.nodes), omega (arith, a, r))
 
-  pub added-few : (h i : Header) → h ≡ header_of s → i ≡ header_of u → (ma mb : List ℕ) (m : Measure) → Measured Either Either s h u i ma mb m → (m.nodes ≤ max_nodes) × (m.edges ≤ max_edges h.form)
-  added-few h i p q ma mb m M =
-      let a = subst (λ (x : Header). Measured Either Either s x u i ma mb m) p M in
-      let b = subst (λ (x : Header). Measured Either Either s (header_of s) u x ma mb m) q a in
-      let f = both-few half one_kept none_kept g.room in
-      subst (λ (x : Header). (m.nodes ≤ max_nodes) × (m.edges ≤ max_edges x.form)) (sym p) (omega (arith, b.node-rows.count, f.0), omega (arith, b.edge-rows, f.1))
+  pub added-kept : (h i : Header) → h ≡ header_of s → i ≡ header_of u → (kept_rows Either Nodes s h u i ≤ max_nodes) × (kept_rows Either Edges s h u i ≤ max_edges h.form)
+  added-kept h i p q = rw (p, q) (both-few half one_kept none_kept g.room)
 
   -- the two as the combination asks for them
   pub added-pair : (h i : Header) → WellFormed s (edge_table s) h → i ≡ header_of u → Pair Either Either h.offices s h u i

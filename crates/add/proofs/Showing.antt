@@ -15,13 +15,21 @@ use Rattle.sheet.specs.declared.Half.{Half}
 use Rattle.sheet.specs.declared.Half.TheVariants.{Nodes, Edges}
 use Rattle.sheet.specs.declared.Header.{Header}
 use Rattle.sheet.specs.declared.Refusal.{Refusal}
-use Rattle.sheet.specs.Refusals.{refuse}
+use Rattle.sheet.specs.Refusals.{none, refuse}
 use Rattle.sheet.specs.Rows.{header_of, count_in, row_key, row_key_at}
-use Rattle.sheet.specs.Verdict.{row_fault}
+use Rattle.sheet.specs.Verdict.{row_fault, verdict}
 use Rattle.sheet.proofs.Refusing.{taken, left, some_is, none_is, else-good, line-good}
 use Rattle.question.specs.declared.Answer.{Answer}
-use Rattle.question.specs.Replies.{tells}
-use Rattle.add.specs.Adding.{already_there, most_in, add_fault, ShowsRow, refused, short, written}
+use Rattle.std.specs.Prelude.{Ok, Err}
+use Rattle.sheet.specs.declared.fault.Fault.{Fault}
+use Rattle.sheet.specs.declared.formed.Sheet.{Sheet}
+use Rattle.sheet.specs.FaultNumbers.{fault_number}
+use Rattle.sheet.specs.Found.{PlaceIs}
+use Rattle.combine.specs.Made as puts
+use Rattle.question.specs.Asked.{after_sheet}
+use Rattle.question.specs.Replies.{refused_by, tells}
+use Rattle.question.proofs.Telling.{after-bad, after-fault, after-nothing}
+use Rattle.add.specs.Adding.{already_there, most_in, add_fault, ShowsRow, refused, short, written, AddsRow, PutsRow}
 
 module _ (half : Half) (s : List ℕ) (h : Header) (head : h ≡ header_of s) (c : Cells) where
   own-fault : (k : ℕ) → k ≡ row_fault half s h c → k ≡ row_fault half s (header_of s) c
@@ -86,6 +94,34 @@ module _ (r : Refusal) (R : ℕ → List ℕ → Type 0) (one : r.number ≡ 0 �
   shows-row-one (written i t z x l) (written j u z' x' l') =
       let e = one z i j t u x x' in
       (ap₂ (λ (x : ℕ) (w : List ℕ). tells x (length w)) e.0 e.1, ap (λ (w : List ℕ). w ++ drop (length w) out) e.1)
+
+-- ---- what is told of a row
+
+module _ (half : Half) (s : List ℕ) (c : Cells) (out : List ℕ) where
+  -- as `verdict::accept` tells it
+  pub adds-bad : (r : Refusal) → (r ≡ verdict 1 s) × (r.number ≡ 0 → ⊥) → AddsRow half s c out (refused_by r) out
+  adds-bad r e = rw (← after-bad s (add_fault half s c) r e.0 e.1) (refused e.1)
+
+  module _ (v : verdict 1 s ≡ none) (t : Sheet) (w : t.words.now ≡ s) where
+    pub adds-fault : (f : Fault) (r : Refusal) → fault_number f ≡ add_fault half t.words.now c → r ≡ record { number = fault_number f; sheet = 0; row = 0 } → AddsRow half s c out (refused_by r) out
+    adds-fault f r e q =
+        let a = after-fault s (add_fault half s c) f r v (e ∙ ap (λ (x : List ℕ). add_fault half x c) w) q in
+        rw (← a.0) (refused a.1)
+
+    module _ (i : ℕ) (e : (add_fault half t.words.now c ≡ 0) × PlaceIs (row_key_at half t.words.now) (count_in half t.header) (row_key c) i) where
+      -- nothing refuses the row
+      stands : none ≡ after_sheet s (add_fault half s c)
+      stands = after-nothing s (add_fault half s c) v (rw (← w) e.0)
+
+      place : PlaceIs (row_key_at half s) (count_in half (header_of s)) (row_key c) i
+      place = rw (← w, ← t.formed.head) e.1
+
+      pub adds-short : (f : Fault) (r : Refusal) (out' : List ℕ) → r ≡ record { number = fault_number f; sheet = 0; row = 0 } → PutsRow half t.words.now c out (Err f) out' → AddsRow half s c out (refused_by r) out'
+      unfolding refuse
+      adds-short f r out' q (puts.short u x l) = rw (← stands, q) (short i u refl (rw (← w) x, place) l)
+
+      pub adds-row : (n : ℕ) (out' : List ℕ) → PutsRow half t.words.now c out (Ok n) out' → AddsRow half s c out (tells i n) out'
+      adds-row n out' (puts.written u x l) = rw (← stands) (written i u refl (rw (← w) x, place) l)
 
 -- ---- what an answer shows
 

@@ -1,6 +1,6 @@
 -- What adding a row promises: of the sheet's words, the row, the lent output before, the answer, and the output after.
 -- Assumes nothing.
-use Rattle.std.specs.Prelude.{ℕ, ◌<◌, ◌≤◌, ◌≡◌, not, List, ◌++◌, length, drop}
+use Rattle.std.specs.Prelude.{ℕ, ◌<◌, ◌≤◌, ◌≡◌, not, List, ◌++◌, length, drop, Result}
 use Rattle.tables.specs.Count.{has}
 use Rattle.sheet.specs.declared.Cells.{Cells}
 use Rattle.sheet.specs.declared.Edge.{Edge}
@@ -9,6 +9,8 @@ use Rattle.sheet.specs.declared.Half.TheVariants.{Nodes, Edges}
 use Rattle.sheet.specs.declared.Header.{Header}
 use Rattle.sheet.specs.declared.Node.{Node}
 use Rattle.sheet.specs.declared.Refusal.{Refusal}
+use Rattle.sheet.specs.declared.fault.Fault.{Fault}
+use Rattle.combine.specs.Made.{PutsCombined}
 use Rattle.sheet.specs.Found.{PlaceIs}
 use Rattle.sheet.specs.Limits.{max_nodes, max_edges}
 use Rattle.sheet.specs.Refusals.{◌below◌, ◌when◌otherwise◌, ◌or_else◌}
@@ -57,3 +59,7 @@ AddsNode s r = AddsRow Nodes s (node_cells r)
 
 abbrev pub AddsEdge : List ℕ → Edge → List ℕ → Answer → List ℕ → Type 0
 AddsEdge s e = AddsRow Edges s (edge_cells e)
+
+-- .. put into an output, where nothing refuses it
+abbrev pub PutsRow : Half → List ℕ → Cells → List ℕ → Result ℕ Fault → List ℕ → Type 0
+PutsRow half s c = PutsCombined (IsAdded half s c)

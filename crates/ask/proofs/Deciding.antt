@@ -12,6 +12,7 @@ use borrow.Author.Tests.{eqb-true, eq-eqb}
 use Rattle.tables.specs.Key.{identity}
 use Rattle.sheet.specs.declared.Header.{Header}
 use Rattle.sheet.specs.declared.Seat.{Seat}
+use Rattle.sheet.specs.declared.formed.Sheet.{Sheet}
 use Rattle.sheet.specs.Rows.{header_of, node_at, edge_table}
 use Rattle.sheet.specs.Accepted.{WellFormed, Accepted}
 use Rattle.sheet.specs.Named.{node_row, seen_at}
@@ -25,7 +26,10 @@ use Rattle.paths.proofs.Trails.{listed, numbered}
 use Rattle.meaning.specs.Paths.{Side, HasPath}
 use Rattle.meaning.specs.Answers.{Says}
 use Rattle.meaning.proofs.Axioms.{a1-a2}
+use Rattle.walk.specs.declared.Walk.{Walk}
+use Rattle.walk.specs.declared.walker.Walker.{Walker}
 use Rattle.walk.specs.Arcs.{Steps, reversed}
+use Rattle.walk.specs.WalkSteps.{steps_back}
 use Rattle.walk.proofs.Walking.{turned-layers}
 use Rattle.question.specs.declared.Question.{Question}
 use Rattle.question.proofs.Known.{found-class}
@@ -34,6 +38,13 @@ use Rattle.ask.specs.Placed.{Placed}
 use Rattle.ask.proofs.Links.{walk_for}
 use Rattle.ask.proofs.Bridge.{trail-path, path-trail}
 use Rattle.tables.proofs.Counts.{some_at}
+
+-- the numbers of a walk back, over the sheet and by the walk that it goes
+pub walked-back : (w : Walker) (sheet : Sheet) (walk : Walk) → (w.sheet ≡ sheet) × (w.walk ≡ walk) → (P : ℕ → Type 0) (d : List ℕ) → Layers (steps_back w) P d
+    → Layers (Steps sheet.words.now sheet.edges.now (reversed walk) sheet.header.edges) P d
+walked-back w sheet walk e P d y =
+    subst (λ (x : Walk). Layers (Steps sheet.words.now sheet.edges.now (reversed x) sheet.header.edges) P d) e.1
+    (subst (λ (x : Sheet). Layers (Steps x.words.now x.edges.now (reversed w.walk) x.header.edges) P d) e.0 y)
 
 module _ (s t : List ℕ) (h : Header) (f : WellFormed s t h) (seat : Seat) (side : Side) (q : Question) (rp rf : ℕ) (pl : Placed s q rp rf) (dist : List ℕ)
     (y : Layers (Steps s t (reversed (walk_for seat side q.deed)) h.edges) (λ x. x ≡ rf) dist) where

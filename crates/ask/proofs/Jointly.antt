@@ -3,16 +3,20 @@
 use Prim.Native.Nat.{ℕ, zero, suc, ◌+◌, ◌<◌, ◌≤◌}
 use native.Mathlib.Omega.{arith}
 use mathlib.Core.Path.{◌≡◌, refl, sym, ap, subst, ◌∙◌}
-use mathlib.Core.Bool.{Bool, true, false, ◌||◌}
+use mathlib.Core.Bool.{Bool, true, false, not, false≢true}
 use mathlib.Core.List.{List, [], ◌∷◌}
-use lib.Dec.{ltb}
-use lib.ListN.{length, get_or, set, take}
+use Rattle.std.specs.Prelude.{Option, Some, None, ltb}
+use Rattle.std.specs.Option.{option_or, unwrap_or}
+use Rattle.std.specs.List.{position, position_from}
+use Rattle.std.proofs.lemmas.List.{length-map}
+use Rattle.std.proofs.lemmas.List.Quantifiers.{position-Some}
+use Rattle.std.proofs.lemmas.Iterator.Adapters.{position_from-zero}
+use mathlib.Core.List.{map}
+use lib.ListN.{length, get_or, set, take, get_or-map}
 use lib.Seq.{get_or-take, length-take-le, get_or-set_same, get_or-set_other}
 use borrow.Author.Count.{below_more}
 use Rattle.tables.specs.Count.{FirstStanding}
 use Rattle.sheet.specs.declared.Header.{Header}
-use Rattle.sheet.specs.declared.Place.{Place}
-use Rattle.sheet.specs.Found.{FirstFound}
 use Rattle.sheet.specs.Limits.{max_offices}
 use Rattle.sheet.specs.Rows.{header_of}
 use Rattle.sheet.specs.Accepted.{WellFormed}
@@ -20,7 +24,18 @@ use Rattle.sheet.specs.Named.{seen_at}
 use Rattle.sheet.proofs.Refusing.{taken, left}
 use Rattle.meaning.specs.Answers.{AnswerIs, Joint, lowest, jointly, JointAnswerIs}
 use Rattle.question.specs.declared.Question.{Question}
+use Rattle.question.specs.declared.reply.Told.{Told}
 use Rattle.question.specs.Asked.{unknown, joint_fault}
+use denote.Enum.Bare.{sameb}
+use Rattle.ask.specs.contracts.joint.OfficeAnswer.{the_type}
+use Rattle.ask.specs.declared.joint.OfficeAnswer.{OfficeAnswer}
+use Rattle.ask.specs.declared.joint.OfficeAnswer.TheVariants.{Undetermined, Granted, Banned, Both}
+use Rattle.ask.specs.declared.joint.JointRule.{JointRule}
+use Rattle.ask.specs.declared.joint.JointRule.TheVariants.{GrantFirst, DenyFirst, FirstApplicable}
+use Rattle.ask.specs.JointRules.{answer_number, rule_number, no_rule, gives_answer, joint_told, joint_or, DecidesBy}
+
+some-apart : (i : ℕ) → Some i ≡ None → ⊥
+some-apart i e = grind arith
 
 module _ (test : ℕ → Bool) (tell : ℕ → ℕ) where
   -- past an answer that does not pass, the search goes on
@@ -41,67 +56,113 @@ module _ (test : ℕ → Bool) (tell : ℕ → ℕ) where
   lowest-none o [] rest f = refl
   lowest-none o (x ∷ rs) rest f = rw (f 0 (omega arith)) (lowest-none (suc o) rs rest (λ i l. f (suc i) (omega arith)))
 
-  -- of the first n answers
-  module _ (rs : List ℕ) (n : ℕ) (h : n ≤ length rs) (o : ℕ) (rest : Joint) (p : Place) (f : FirstFound (λ i. test (get_or rs i 0)) n p) where
-    long : length (take n rs) ≡ n
-    long = length-take-le n rs h
-
-    same : (i : ℕ) → i < n → get_or (take n rs) i 0 ≡ get_or rs i 0
-    same i l = get_or-take n rs i 0 l
-
-    pub decides : p.found ≡ true → lowest test tell o (take n rs) rest ≡ record { answer = tell (get_or rs p.row 0); office = p.row + o }
-    decides e =
-        let r = p.row in
-        let l = f.met e in
-        lowest-found o (take n rs) rest r
+  -- of the answers of offices
+  module _ (rs : List OfficeAnswer) (rest : Joint) where
+    pub some-decides : (i : ℕ) → position (λ r. test (answer_number r)) rs ≡ Some i → lowest test tell 1 (map answer_number rs) rest ≡ record { answer = tell (answer_number (get_or rs i Undetermined)); office = i + 1 }
+    some-decides i e =
+        let f = position-Some (λ r. test (answer_number r)) rs i Undetermined e in
+        let long : length (map answer_number rs) ≡ length rs = length-map rs answer_number in
+        let same = λ (k : ℕ). get_or-map answer_number rs k Undetermined in
+        lowest-found 1 (map answer_number rs) rest i
         record {
-          most = omega (arith, long);
-          before = λ i k. ap test (same i (omega arith)) ∙ f.first.before i k;
-          found = λ k. ap test (same r l) ∙ f.first.found l;
+          most = omega (arith, f.0, long);
+          before = λ k l. ap test (same k) ∙ f.2 k l;
+          found = λ l. ap test (same i) ∙ f.1;
         }
-        (omega (arith, long))
-        ∙ ap (λ (k : ℕ). record { answer = tell k; office = r + o }) (same r l)
+        (omega (arith, f.0, long))
+        ∙ ap (λ (k : ℕ). record { answer = tell k; office = i + 1 }) (same i)
 
-    pub passed_over : p.found ≡ false → lowest test tell o (take n rs) rest ≡ rest
-    passed_over e = lowest-none o (take n rs) rest (λ i k. ap test (same i (omega (arith, long))) ∙ f.first.before i (omega (arith, long, f.missed e)))
+  none-from : (o i : ℕ) (rs : List OfficeAnswer) (rest : Joint) → position_from (λ r. test (answer_number r)) i rs ≡ None → lowest test tell o (map answer_number rs) rest ≡ rest
+  unfolding lowest
+  none-from o i [] rest e = refl
+  none-from o i (x ∷ rs) rest e = by (test (answer_number x)) refl (λ e'. none-from (suc o) (i + 1) rs rest e')
+    where
+      by : (b : Bool) → test (answer_number x) ≡ b → (position_from (λ r. test (answer_number r)) (i + 1) rs ≡ None → lowest test tell (suc o) (map answer_number rs) rest ≡ rest)
+          → lowest test tell o (map answer_number (x ∷ rs)) rest ≡ rest
+      by true h later = absurd (some-apart i (rw h at e))
+      by false h later = rw h (later (rw h at e))
+
+  pub none-decides : (rs : List OfficeAnswer) (rest : Joint) → position (λ r. test (answer_number r)) rs ≡ None → lowest test tell 1 (map answer_number rs) rest ≡ rest
+  none-decides rs rest e = none-from 1 0 rs rest (sym (position_from-zero (λ r. test (answer_number r)) rs) ∙ e)
+
+-- ---- a rule, as its steps tell it
+
+or-decides : (t u : Option Told) (d : Told) → joint_told (unwrap_or (option_or t u) d) ≡ joint_or t (joint_or u (joint_told d))
+or-decides (Some t) u d = refl
+or-decides None (Some u) d = refl
+or-decides None None d = refl
+
+one-decides : (t : Option Told) (d : Told) → joint_told (unwrap_or t d) ≡ joint_or t (joint_told d)
+one-decides (Some t) d = refl
+one-decides None d = refl
+
+module _ (rs : List OfficeAnswer) (rule : JointRule) (decided : Option Told) (d result : Told) (none : d ≡ record { value = 0; count = 0 }) (is : result ≡ unwrap_or decided d) where
+  pub rule-grants : (t u : Option Told) → rule ≡ GrantFirst → decided ≡ option_or t u → DecidesBy (gives_answer 1) (λ r. 1) rs t → DecidesBy (gives_answer 2) (λ r. 2) rs u
+      → joint_told result ≡ jointly (rule_number rule) (map answer_number rs)
+  unfolding jointly
+  rule-grants t u e f a b = rw (e, is, f, none) (or-decides t u _ ∙ sym (a _ ∙ ap (joint_or t) (b _)))
+
+  pub rule-denies : (t u : Option Told) → rule ≡ DenyFirst → decided ≡ option_or t u → DecidesBy (gives_answer 2) (λ r. 2) rs t → DecidesBy (gives_answer 1) (λ r. 1) rs u
+      → joint_told result ≡ jointly (rule_number rule) (map answer_number rs)
+  unfolding jointly
+  rule-denies t u e f a b = rw (e, is, f, none) (or-decides t u _ ∙ sym (a _ ∙ ap (joint_or t) (b _)))
+
+  pub rule-applies : rule ≡ FirstApplicable → DecidesBy (λ r. ltb 0 r) (λ r. r) rs decided → joint_told result ≡ jointly (rule_number rule) (map answer_number rs)
+  unfolding jointly
+  rule-applies e a = rw (e, is, none) (one-decides decided _ ∙ sym (a _))
 
 -- one answer more
-pub one_more : (P : ℕ → ℕ → Type 0) (rs : List ℕ) (k x : ℕ) → k < length rs → ((i : ℕ) → i < k → P i (get_or rs i 0)) → P k x → (i : ℕ) → i < k + 1 → P i (get_or (set rs k x) i 0)
+pub one_more : (P : ℕ → ℕ → Type 0) (rs : List OfficeAnswer) (k : ℕ) (x : OfficeAnswer) → k < length rs → ((i : ℕ) → i < k → P i (answer_number (get_or rs i Undetermined))) → P k (answer_number x)
+    → (i : ℕ) → i < k + 1 → P i (answer_number (get_or (set rs k x) i Undetermined))
 one_more P rs k x l f h =
-    below_more (λ i. P i (get_or (set rs k x) i 0)) k
-    (λ i m. subst (λ (y : ℕ). P i y) (sym (get_or-set_other rs k i x 0 (λ e. omega arith))) (f i m))
-    (subst (λ (y : ℕ). P k y) (sym (get_or-set_same rs k x 0 l)) h)
+    below_more (λ i. P i (answer_number (get_or (set rs k x) i Undetermined))) k
+    (λ i m. subst (λ (y : OfficeAnswer). P i (answer_number y)) (sym (get_or-set_other rs k i x Undetermined (λ e. omega arith))) (f i m))
+    (subst (λ (y : OfficeAnswer). P k (answer_number y)) (sym (get_or-set_same rs k x Undetermined l)) h)
 
 -- ---- what refuses a joint answer
 
-pub fault-rule : (s : List ℕ) (q : Question) → (ltb q.rule 1 || ltb 3 q.rule) ≡ true → 27 ≡ joint_fault s q
+pub fault-rule : (s : List ℕ) (q : Question) → no_rule q.rule ≡ true → 27 ≡ joint_fault s q
 unfolding joint_fault
 fault-rule s q e = taken 27 _ _ e
 
-pub fault-known : (s : List ℕ) (q : Question) (n : ℕ) → (ltb q.rule 1 || ltb 3 q.rule) ≡ false → n ≡ unknown s true 1 q → n ≡ joint_fault s q
+pub fault-known : (s : List ℕ) (q : Question) (n : ℕ) → no_rule q.rule ≡ false → n ≡ unknown s true 1 q → n ≡ joint_fault s q
 unfolding joint_fault
 fault-known s q n e u = left n 27 _ _ e u
 
 -- a rule over the answers of all offices of a sheet
-module _ (s t : List ℕ) (h : Header) (f : WellFormed s t h) (q : Question) (rs : List ℕ) (long : length rs ≡ max_offices)
-    (each : (i : ℕ) → i < h.offices → AnswerIs (seen_at s (suc i)) q.person q.deed q.folio (get_or rs i 0)) where
+module _ (s t : List ℕ) (h : Header) (f : WellFormed s t h) (q : Question) (rs : List OfficeAnswer) (long : length rs ≡ max_offices)
+    (each : (i : ℕ) → i < h.offices → AnswerIs (seen_at s (suc i)) q.person q.deed q.folio (answer_number (get_or rs i Undetermined))) where
   offices-fit : h.offices ≤ length rs
   offices-fit = omega (arith, long, f.nodes.header.offices-high)
 
   offices-same : h.offices ≡ (header_of s).offices
   offices-same = ap (λ (x : Header). x.offices) f.head
 
-  pub joint-is : JointAnswerIs (seen_at s) (header_of s).offices q.rule q.person q.deed q.folio
-      (record { answer = (jointly q.rule (take h.offices rs)).answer; office = (jointly q.rule (take h.offices rs)).office })
-  joint-is =
+  pub joint-is : (told : Told) → joint_told told ≡ jointly q.rule (map answer_number (take h.offices rs)) → JointAnswerIs (seen_at s) (header_of s).offices q.rule q.person q.deed q.folio (joint_told told)
+  joint-is told e =
       record {
-        answers = take h.offices rs;
+        answers = map answer_number (take h.offices rs);
         offices-say =
             record {
-              count = length-take-le h.offices rs offices-fit ∙ offices-same;
+              count = length-map (take h.offices rs) answer_number ∙ length-take-le h.offices rs offices-fit ∙ offices-same;
               each = λ i l.
                   let k : i < h.offices = omega (arith, offices-same) in
-                  subst (λ (r : ℕ). AnswerIs (seen_at s (suc i)) q.person q.deed q.folio r) (sym (get_or-take h.offices rs i 0 k)) (each i k);
+                  subst (λ (r : ℕ). AnswerIs (seen_at s (suc i)) q.person q.deed q.folio r)
+                  (sym (get_or-map answer_number (take h.offices rs) i Undetermined ∙ ap answer_number (get_or-take h.offices rs i Undetermined k))) (each i k);
             };
-        result = refl;
+        result = e;
       }
+
+-- ---- whether an answer is undetermined, as `==` tells it
+
+pub is-determined : (r : OfficeAnswer) (b : Bool) → b ≡ not (sameb the_type r Undetermined) → b ≡ true → answer_number r ≡ 0 → ⊥
+is-determined Undetermined b u t z = false≢true (sym u ∙ t)
+is-determined Granted b u t z = absurd (omega (arith, z))
+is-determined Banned b u t z = absurd (omega (arith, z))
+is-determined Both b u t z = absurd (omega (arith, z))
+
+pub is-undetermined : (r : OfficeAnswer) (b : Bool) → b ≡ not (sameb the_type r Undetermined) → b ≡ false → answer_number r ≡ 0
+is-undetermined Undetermined b u t = refl
+is-undetermined Granted b u t = absurd (false≢true (sym t ∙ u))
+is-undetermined Banned b u t = absurd (false≢true (sym t ∙ u))
+is-undetermined Both b u t = absurd (false≢true (sym t ∙ u))

@@ -8,6 +8,7 @@ use lib.ListN.{length, get_or, set, take, drop, length-append}
 use lib.Seq.{take_at, get_or-take, sets, length-take-le}
 use Rattle.sheet.specs.declared.Header.{Header}
 use Rattle.sheet.specs.declared.Seat.{Seat}
+use Rattle.sheet.specs.declared.formed.Sheet.{Sheet}
 use Rattle.sheet.specs.Limits.{max_nodes}
 use Rattle.sheet.specs.Rows.{node_at, edge_table}
 use Rattle.sheet.specs.Accepted.{WellFormed}
@@ -20,17 +21,20 @@ use Rattle.paths.proofs.Trails.{sized}
 use Rattle.meaning.specs.Paths.{Side, right_kind}
 use Rattle.meaning.specs.Questions.{WitnessIs}
 use Rattle.walk.specs.declared.Walk.{Walk}
-use Rattle.walk.specs.Arcs.{Steps, walk_of, reversed, Ready}
+use Rattle.walk.specs.declared.walker.Walker.{Walker}
+use Rattle.walk.specs.Arcs.{Steps, walk_of, reversed}
+use Rattle.walk.specs.WalkSteps.{steps_of, steps_back}
 use Rattle.walk.proofs.Walking.{step-inside}
 use Rattle.question.specs.declared.Question.{Question}
 use Rattle.question.specs.Asked.{side_of}
+use Rattle.ask.specs.declared.stand.Stand.{Stand}
 use Rattle.ask.specs.Placed.{Placed}
-use Rattle.question.specs.Checked.{AtSeat}
+use Rattle.question.specs.Checked.{seen_at_seat}
 use Rattle.ask.specs.PathRows.{spelled_rows, RowsIn, WalkedBack, PathRows}
 use Rattle.ask.proofs.Links.{walk_for}
 use Rattle.ask.proofs.Shortest.{witness, spelled-long}
 use Rattle.sheet.proofs.Forming.{words_of}
-use Rattle.ask.proofs.Deciding.{back-layers, path-reached}
+use Rattle.ask.proofs.Deciding.{walked-back, back-layers, path-reached}
 
 -- the two words that stand next
 pub nodes-next : (s rows : List ℕ) (i : ℕ) → i < length rows → take 2 (drop (2 * i) (spelled_rows s rows)) ≡ (node_at s (get_or rows i 0)).number ∷ (node_at s (get_or rows i 0)).variant ∷ []
@@ -100,42 +104,54 @@ module _ (s t : List ℕ) (h : Header) (f : WellFormed s t h) (seat : Seat) (sid
             (witness s acc seat side q.deed pl.deed-some rf q.folio pl.folio-in pl.folio-is rp q.person pl.person-in pl.person-is tr.trail best);
       }
 
--- ---- as the code has it: numbers measured from a seat
+-- ---- as the code has it: numbers measured from where a question stands
 
-pub measured-so : (s t : List ℕ) (h : Header) (seat : Seat) (q : Question) (rf : ℕ) (w : Walk) → w ≡ walk_of seat (right_kind (side_of q.kind)) q.deed
-    → (d : List ℕ) → (length d ≡ max_nodes) × Layers (Steps s t (reversed w) h.edges) (λ x. x ≡ rf) d → WalkedBack s t h seat q rf d
-measured-so s t h seat q rf w is d m = record { long = m.0; layers = subst (λ (x : Walk). Layers (Steps s t (reversed x) h.edges) (λ y. y ≡ rf) d) is m.1 }
+module _ (o : Stand) where
+  -- the walk of the question's paths
+  abbrev OwnWalk : Walker → Type 0
+  OwnWalk w = (w.sheet ≡ o.at.sheet) × (w.walk ≡ walk_of o.at.seat (right_kind (side_of o.question.kind)) o.question.deed)
 
--- a row without a number has no witness
-pub no-witness : (s t : List ℕ) (h : Header) (seat : Seat) → AtSeat s t h seat → (q : Question) (rp rf : ℕ) → Placed s q rp rf → (d : List ℕ) → WalkedBack s t h seat q rf d → get_or d rp 0 ≡ 0
-    → (ws : List ℕ) → WitnessIs (seen_from s seat) (side_of q.kind) q.person q.deed q.folio ws → ⊥
-no-witness s t h seat at q rp rf pl d me z ws x = path-reached s t h at.formed seat (side_of q.kind) q rp rf pl d me.layers (record { words = ws; is = x.holds }) z
+  abbrev NumbersBack : List ℕ → Type 0
+  NumbersBack d = WalkedBack o.at.sheet.words.now o.at.sheet.edges.now o.at.sheet.header o.at.seat o.question o.places.folio d
 
-module _ (s t : List ℕ) (h : Header) (seat : Seat) (at : AtSeat s t h seat) (q : Question) (rp rf : ℕ) (pl : Placed s q rp rf) (d : List ℕ) (me : WalkedBack s t h seat q rf d)
-    (w : Walk) (is : w ≡ walk_of seat (right_kind (side_of q.kind)) q.deed) where
-  pub trace-ready : Ready s t h w d
-  trace-ready =
-      record {
-        formed = at.formed;
-        seated = rw is at.seated;
-        room = let n = at.formed.nodes.header.nodes in omega (arith, me.long);
-      }
+  pub measured-so : (w : Walker) → OwnWalk w → (d : List ℕ) → (length d ≡ max_nodes) × Layers (steps_back w) (λ x. x ≡ o.places.folio) d → NumbersBack d
+  measured-so w is d m = record { long = m.0; layers = walked-back w o.at.sheet _ is _ d m.1 }
 
-  pub trace-layers : Layers (Steps s t (reversed w) h.edges) (Starts d) d
-  trace-layers = subst (λ (x : Walk). Layers (Steps s t (reversed x) h.edges) (Starts d) d) (sym is) (traceable s t h at.formed seat (side_of q.kind) q rp rf pl d me.layers)
+  module _ (d : List ℕ) (me : NumbersBack d) where
+    -- a row without a number has no witness
+    pub no-witness : get_or d o.places.person 0 ≡ 0 → (ws : List ℕ) → WitnessIs (seen_at_seat o.at) (side_of o.question.kind) o.question.person o.question.deed o.question.folio ws → ⊥
+    no-witness z ws x =
+        path-reached _ _ _ o.at.sheet.formed o.at.seat (side_of o.question.kind) o.question o.places.person o.places.folio o.placed d me.layers (record { words = ws; is = x.holds }) z
 
-  pub trace-from : rp < h.nodes
-  trace-from = subst (λ (x : Header). rp < x.nodes) (sym at.formed.head) pl.person-in
+    module _ (w : Walker) (is : OwnWalk w) where
+      -- what a trace asks for
+      pub trace-ready : 0 < get_or d o.places.person 0 → (w.sheet.header.nodes ≤ length d) × Layers (steps_back w) (Starts d) d × (o.places.person < w.sheet.header.nodes) × (0 < get_or d o.places.person 0) × (get_or d o.places.person 0 ≤ max_nodes)
+      trace-ready h =
+          let f = o.at.sheet.formed in
+          let n = f.nodes.header.nodes in
+          let same = ap (λ (x : Header). x.nodes) f.head in
+          let own = ap (λ (x : Sheet). x.header.nodes) is.0 in
+          let rp = o.placed.person-in in (
+            omega (arith, own, me.long),
+            subst (λ (x : Walk). Layers (Steps w.sheet.words.now w.sheet.edges.now (reversed x) w.sheet.header.edges) (Starts d) d) (sym is.1)
+                (subst (λ (x : Sheet). Layers (Steps x.words.now x.edges.now (reversed (walk_for o.at.seat (side_of o.question.kind) o.question.deed)) x.header.edges) (Starts d) d) (sym is.0)
+                (traceable _ _ _ f o.at.seat (side_of o.question.kind) o.question o.places.person o.places.folio o.placed d me.layers)),
+            omega (arith, own, same),
+            h,
+            subst (λ (x : ℕ). get_or d o.places.person 0 ≤ x) me.long (number_bound _ _ d me.layers o.places.person),
+          )
 
-  pub trace-room : get_or d rp 0 ≤ max_nodes
-  trace-room = subst (λ (x : ℕ). get_or d rp 0 ≤ x) me.long (number_bound _ _ d me.layers rp)
+      module _ (rows₀ rows : List ℕ) (r : ℕ) (tr : Traced (steps_of w) (Starts d) o.places.person rows₀ rows r) where
+        own-trace : Traced (Steps o.at.sheet.words.now o.at.sheet.edges.now (walk_for o.at.seat (side_of o.question.kind) o.question.deed) o.at.sheet.header.edges) (Starts d) o.places.person rows₀ rows r
+        own-trace =
+            subst (λ (x : Walk). Traced (Steps o.at.sheet.words.now o.at.sheet.edges.now x o.at.sheet.header.edges) (Starts d) o.places.person rows₀ rows r) is.1
+            (subst (λ (x : Sheet). Traced (Steps x.words.now x.edges.now w.walk x.header.edges) (Starts d) o.places.person rows₀ rows r) is.0 tr)
 
-  module _ (rows₀ rows : List ℕ) (r : ℕ) (tr : Traced (Steps s t w h.edges) (Starts d) rp rows₀ rows r) where
-    own : Shown s t h at.formed seat (side_of q.kind) q rp rf pl d me.layers rows r
-    own = shown s t h at.formed seat (side_of q.kind) q rp rf pl d me.layers rows₀ rows r (subst (λ (x : Walk). Traced (Steps s t x h.edges) (Starts d) rp rows₀ rows r) is tr)
+        own : Shown _ _ _ o.at.sheet.formed o.at.seat (side_of o.question.kind) o.question o.places.person o.places.folio o.placed d me.layers rows r
+        own = shown _ _ _ o.at.sheet.formed o.at.seat (side_of o.question.kind) o.question o.places.person o.places.folio o.placed d me.layers rows₀ rows r own-trace
 
-    long : r ≤ length rows
-    long = let e = ap length tr.wrote in let z = tr.size in omega (arith, length-append tr.trail (drop r rows₀))
+        long : r ≤ length rows
+        long = let e = ap length tr.wrote in let z = tr.size in omega (arith, length-append tr.trail (drop r rows₀))
 
-    pub trace-rows : PathRows s h.nodes seat q (get_or d rp 0) rows
-    trace-rows = subst (λ (n : ℕ). PathRows s h.nodes seat q n rows) own.size (record { inside = own.inside; most = long; is = own.is })
+        pub trace-rows : PathRows o.at.sheet.words.now o.at.sheet.header.nodes o.at.seat o.question (get_or d o.places.person 0) rows
+        trace-rows = subst (λ (n : ℕ). PathRows o.at.sheet.words.now o.at.sheet.header.nodes o.at.seat o.question n rows) own.size (record { inside = own.inside; most = long; is = own.is })

@@ -1,4 +1,4 @@
 pub mod Placed
 pub mod PathRows
-pub mod Passing
+pub mod JointRules
 pub mod Promises

@@ -9,73 +9,86 @@ use mathlib.Core.Logic.{⊎_elim}
 use lib.Dec.{ltb, eqb, eqb-zero-suc, eqb-suc-zero}
 use lib.ListN.{length, get_or, drop}
 use borrow.Author.Tests.{ltb-true, ltb-false, eqb-true, eqb-false, eq-eqb}
+use Rattle.std.specs.Prelude.{Result, Ok, Err}
 use Rattle.tables.specs.Count.{number_of}
+use Rattle.tables.proofs.Counts.{has-row, has_some}
 use Rattle.tables.specs.Key.{Key, identity, relation, same_key}
 use Rattle.tables.specs.Office.{View}
 use Rattle.sheet.specs.declared.Cells.{Cells}
 use Rattle.sheet.specs.declared.Header.{Header}
 use Rattle.sheet.specs.declared.Half.TheVariants.{Edges}
-use Rattle.sheet.specs.declared.Place.{Place}
 use Rattle.sheet.specs.declared.Edge.{Edge}
-use Rattle.sheet.specs.declared.Seat.{Seat}
-use Rattle.sheet.specs.Rows.{header_of, edge_at, edge_of, edge_table, edge_key, node_key_at, row_key}
-use Rattle.sheet.specs.Accepted.{RowsRise, WellFormed, Accepted}
-use Rattle.sheet.specs.Found.{FoundIs}
+use Rattle.sheet.specs.Rows.{header_of, edge_at, edge_of, edge_key, node_key_at, row_key}
+use Rattle.sheet.specs.Accepted.{RowsRise, Accepted}
+use Rattle.sheet.specs.Found.{FoundAt}
 use Rattle.sheet.specs.Named.{node_row}
 use Rattle.sheet.specs.Seats.{counts_at, seen_from}
 use Rattle.sheet.proofs.Accepting.{or-false}
 use Rattle.sheet.proofs.Naming.{node_seen, edge-seen, ends-seen, rows_named, named-rows, row_seen}
-use Rattle.sheet.proofs.Places.{found-there, found-not, half-rises}
+use Rattle.sheet.proofs.Places.{stands-there, formed-rises}
 use Rattle.paths.specs.Leads.{among, leads}
 use Rattle.paths.proofs.Tests.{both, or_cases}
-use Rattle.meaning.specs.Paths.{Side, right_kind, category, deed, member, contained, applies, step, carries, path, pairs, spell, firsts, is_path}
+use Rattle.meaning.specs.Paths.{Side, right_kind, category, deed, member, applies, step, carries, path, pairs, spell, firsts, is_path}
 use Rattle.meaning.proofs.Spelling.{spelt, spell-long}
-use Rattle.question.specs.declared.Question.{Question}
-use Rattle.question.specs.Asked.{side_of, seat_for, asked, bad_office}
 use Rattle.claim.specs.Listed.{every_second, has_second, framed, way_from, goes_on}
-use Rattle.question.specs.Checked.{AtSeat}
+use mir.Val.{bool_byte}
+use Rattle.sheet.specs.declared.formed.Sheet.{Sheet}
+use Rattle.sheet.specs.declared.Seat.{Seat}
+use Rattle.question.specs.declared.Question.{Question}
+use Rattle.question.specs.declared.asks.Asks.{Asks}
+use Rattle.question.specs.declared.office.OfficeSheet.{OfficeSheet}
+use Rattle.question.specs.Sides.{side}
+use Rattle.question.specs.Asked.{side_of, seat_for, asked, bad_office}
+use Rattle.question.specs.Checked.{seen_at_seat}
 use Rattle.sheet.proofs.Forming.{words_of}
 use Rattle.sheet.proofs.Reading.{row_under}
-use Rattle.question.proofs.Known.{side-grant, side-ban}
+
+-- ---- what a search tells: the row that has the key, or that none has it
+
+module _ (f : ℕ → Key) (n : ℕ) (up : RowsRise f n) (k : Key) (i : ℕ) where
+  row-there : FoundAt f n k (Ok i) → (i < n) × (f i ≡ k)
+  row-there x = let (j, l, d) = has_some n f k (sym x.told) in stands-there f n up k i j x.place l d
+
+  row-nowhere : FoundAt f n k (Err i) → (j : ℕ) → j < n → f j ≡ k → ⊥
+  row-nowhere x j l d = false≢true (x.told ∙ has-row n f k j l d)
 
 -- ---- a relation is seen exactly if the edge row between the rows of its ends stands and counts
 
-module _ (s t : List ℕ) (h : Header) (seat : Seat) (o : AtSeat s t h seat) where
-  acc : Accepted s
-  acc = words_of s t h o.formed
+module _ (o : OfficeSheet) where
+  abbrev s : List ℕ
+  s = o.sheet.words.now
 
-  -- the words' own edge table
-  pub own-edges : WellFormed s (edge_table s) h
-  own-edges = subst (λ (x : List ℕ). WellFormed s x h) o.formed.table o.formed
+  acc : Accepted s
+  acc = words_of s o.sheet.edges.now o.sheet.header o.sheet.formed
 
   -- what the searches tell
-  abbrev InNodes : Key → Place → Type 0
-  InNodes k p = FoundIs (node_key_at s) h.nodes k p
+  abbrev InNodes : Key → Result ℕ ℕ → Type 0
+  InNodes k r = FoundAt (node_key_at s) o.sheet.header.nodes k r
 
-  abbrev InEdges : Key → Place → Type 0
-  InEdges k p = FoundIs (λ j. edge_key (edge_of s j)) h.edges k p
+  abbrev InEdges : Key → Result ℕ ℕ → Type 0
+  InEdges k r = FoundAt (λ j. edge_key (edge_of s j)) o.sheet.header.edges k r
 
-  node-there : (k : Key) (p : Place) → InNodes k p → p.found ≡ true → (p.row < (header_of s).nodes) × (node_key_at s p.row ≡ k)
-  node-there k p f e =
-      let x = found-there (node_key_at s) h.nodes o.formed.nodes.rise k p f e in
-      (subst (λ (y : Header). p.row < y.nodes) o.formed.head x.0, x.1)
+  node-there : (k : Key) (i : ℕ) → InNodes k (Ok i) → (i < (header_of s).nodes) × (node_key_at s i ≡ k)
+  node-there k i f =
+      let x = row-there (node_key_at s) o.sheet.header.nodes o.sheet.formed.nodes.rise k i f in
+      (subst (λ (y : Header). i < y.nodes) o.sheet.formed.head x.0, x.1)
 
-  edges-up-to : RowsRise (λ j. edge_key (edge_of s j)) h.edges
-  edges-up-to = half-rises Edges s h own-edges
+  edges-up-to : RowsRise (λ j. edge_key (edge_of s j)) o.sheet.header.edges
+  edges-up-to = formed-rises Edges s o.sheet.edges.now o.sheet.header o.sheet.formed
 
-  pub edge-there : (k : Key) (p : Place) → InEdges k p → p.found ≡ true → (p.row < h.edges) × (edge_key (edge_of s p.row) ≡ k)
-  edge-there k p f e = found-there (λ j. edge_key (edge_of s j)) h.edges edges-up-to k p f e
+  pub edge-there : (k : Key) (i : ℕ) → InEdges k (Ok i) → (i < o.sheet.header.edges) × (edge_key (edge_of s i) ≡ k)
+  edge-there k i f = row-there (λ j. edge_key (edge_of s j)) o.sheet.header.edges edges-up-to k i f
 
   -- an identity in no node row is seen nowhere
-  no_node : (k : Key) (p : Place) → InNodes k p → p.found ≡ false → (seen_from s seat).node k ≡ true → ⊥
+  no_node : (k : Key) (i : ℕ) → InNodes k (Err i) → (seen_at_seat o).node k ≡ true → ⊥
   unfolding node_row
-  no_node k p f e n =
-      let r = node_seen s acc seat.office k n in
-      found-not (node_key_at s) h.nodes o.formed.nodes.rise k p f e r.row (subst (λ (y : Header). r.row < y.nodes) (sym o.formed.head) r.inside) r.names
+  no_node k i f n =
+      let r = node_seen s acc o.seat.office k n in
+      row-nowhere (node_key_at s) o.sheet.header.nodes o.sheet.formed.nodes.rise k i f r.row (subst (λ (y : Header). r.row < y.nodes) (sym o.sheet.formed.head) r.inside) r.names
 
   module _ (kind : ℕ) (a b : Cells) where
     abbrev seen : Bool
-    seen = (seen_from s seat).edge (relation kind (row_key a) (row_key b))
+    seen = (seen_at_seat o).edge (relation kind (row_key a) (row_key b))
 
     none : (seen ≡ true → ⊥) → false ≡ seen
     none n = go seen refl
@@ -84,47 +97,41 @@ module _ (s t : List ℕ) (h : Header) (seat : Seat) (o : AtSeat s t h seat) whe
         go false e = sym e
         go true e = absurd (n e)
 
-    ends : seen ≡ true → ((seen_from s seat).node (row_key a) ≡ true) × ((seen_from s seat).node (row_key b) ≡ true)
-    ends e = let x = ends-seen s acc seat.office kind _ _ _ _ _ _ e in (x.0, x.1)
+    ends : seen ≡ true → ((seen_at_seat o).node (row_key a) ≡ true) × ((seen_at_seat o).node (row_key b) ≡ true)
+    ends e = let x = ends-seen s acc o.seat.office kind _ _ _ _ _ _ e in (x.0, x.1)
 
-    pub not-from : (p : Place) → InNodes (row_key a) p → p.found ≡ false → false ≡ seen
-    not-from p f e = none (λ g. no_node (row_key a) p f e (ends g).0)
+    pub not-from : (i : ℕ) → InNodes (row_key a) (Err i) → false ≡ seen
+    not-from i f = none (λ g. no_node (row_key a) i f (ends g).0)
 
-    pub not-to : (p : Place) → InNodes (row_key b) p → p.found ≡ false → false ≡ seen
-    not-to p f e = none (λ g. no_node (row_key b) p f e (ends g).1)
+    pub not-to : (i : ℕ) → InNodes (row_key b) (Err i) → false ≡ seen
+    not-to i f = none (λ g. no_node (row_key b) i f (ends g).1)
 
     -- both ends were found: the relation's row is the one between their rows
-    module _ (p q : Place) (f : InNodes (row_key a) p) (pf : p.found ≡ true) (g : InNodes (row_key b) q) (qf : q.found ≡ true) (k : Key) (named : k ≡ identity kind p.row q.row) (e : Place) (x : InEdges k e) where
-      by-ends : relation kind (node_key_at s p.row) (node_key_at s q.row) ≡ relation kind (row_key a) (row_key b)
-      by-ends = let u = (node-there (row_key a) p f pf).1 in let v = (node-there (row_key b) q g qf).1 in λ i. relation kind (u i) (v i)
+    module _ (p q : ℕ) (f : InNodes (row_key a) (Ok p)) (g : InNodes (row_key b) (Ok q)) (k : Key) (named : k ≡ identity kind p q) (e : ℕ) where
+      by-ends : relation kind (node_key_at s p) (node_key_at s q) ≡ relation kind (row_key a) (row_key b)
+      by-ends = let u = (node-there (row_key a) p f).1 in let v = (node-there (row_key b) q g).1 in λ i. relation kind (u i) (v i)
 
-      pub not-edge : e.found ≡ false → false ≡ seen
-      not-edge n =
+      pub not-edge : InEdges k (Err e) → false ≡ seen
+      not-edge x =
           none
           (λ y.
-          let r = edge-seen s acc seat.office _ y in
-          let z = named-rows s acc r.row kind p.row q.row r.inside (node-there (row_key a) p f pf).0 (node-there (row_key b) q g qf).0 (r.names ∙ sym by-ends) in
-          found-not (λ j. edge_key (edge_of s j)) h.edges edges-up-to k e x n r.row (subst (λ (y : Header). r.row < y.edges) (sym o.formed.head) r.inside) (z ∙ sym named))
+          let r = edge-seen s acc o.seat.office _ y in
+          let z = named-rows s acc r.row kind p q r.inside (node-there (row_key a) p f).0 (node-there (row_key b) q g).0 (r.names ∙ sym by-ends) in
+          row-nowhere (λ j. edge_key (edge_of s j)) o.sheet.header.edges edges-up-to k e x r.row (subst (λ (y : Header). r.row < y.edges) (sym o.sheet.formed.head) r.inside) (z ∙ sym named))
 
-      pub edge-counts : e.found ≡ true → (d : Edge) (r : Bool) → d ≡ edge_at h t e.row → r ≡ counts_at seat d → r ≡ seen
-      edge-counts y d r m z =
-          let w = edge-there k e x y in
-          let n = rows_named s e.row kind p.row q.row (w.1 ∙ named) ∙ by-ends in
-          let l = subst (λ (y : Header). e.row < y.edges) o.formed.head w.0 in
-          let own : d ≡ edge_of s e.row = m ∙ row_under s t h o.formed e.row ∙ ap (λ (y : List ℕ). edge_at (header_of s) y e.row) o.formed.table in
-          z ∙ ap (λ (y : Edge). counts_at seat y) own ∙ sym (row_seen s acc seat.office e.row l) ∙ ap (λ (y : Key). (seen_from s seat).edge y) n
+      pub edge-counts : InEdges k (Ok e) → (d : Edge) (r : Bool) → d ≡ edge_at o.sheet.header o.sheet.edges.now e → r ≡ counts_at o.seat d → r ≡ seen
+      edge-counts x d r m z =
+          let w = edge-there k e x in
+          let n = rows_named s e kind p q (w.1 ∙ named) ∙ by-ends in
+          let l = subst (λ (y : Header). e < y.edges) o.sheet.formed.head w.0 in
+          let own : d ≡ edge_of s e = m ∙ row_under s o.sheet.edges.now o.sheet.header o.sheet.formed e ∙ ap (λ (y : List ℕ). edge_at (header_of s) y e) o.sheet.formed.table in
+          z ∙ ap (λ (y : Edge). counts_at o.seat y) own ∙ sym (row_seen s acc o.seat.office e l) ∙ ap (λ (y : Key). (seen_at_seat o).edge y) n
 
 -- ---- relations between named identities
 
 module _ (g : View) where
   pub relation-named : (kind : ℕ) (a b : Cells) (x y : Key) (r : Bool) → row_key a ≡ x → row_key b ≡ y → r ≡ g.edge (relation kind (row_key a) (row_key b)) → r ≡ g.edge (relation kind x y)
   relation-named kind a b x y r e f q = q ∙ ap (λ (z : Key). g.edge (relation kind z (row_key b))) e ∙ ap (λ (z : Key). g.edge (relation kind x z)) f
-
-  pub step-grant : (kind c d : ℕ) (r : Bool) → kind ≡ 0 → r ≡ contained g c d → r ≡ step g (side_of kind) c d
-  step-grant kind c d r e q = q ∙ ap (λ (z : Side). step g z c d) (sym (side-grant kind e))
-
-  pub step-ban : (kind c d : ℕ) (r : Bool) → (kind ≡ 0 → ⊥) → r ≡ contained g d c → r ≡ step g (side_of kind) c d
-  step-ban kind c d r n q = q ∙ ap (λ (z : Side). step g z c d) (sym (side-ban kind n))
 
   pub carries-by : (side : Side) (kind d v f c : ℕ) (x y : Bool) → kind ≡ right_kind side → x ≡ g.edge (relation kind (category c) (deed d v)) → y ≡ applies g d v f → (x && y) ≡ carries g side d v f c
   carries-by side kind d v f c x y e p q = rw (p, q, e) refl
@@ -142,8 +149,13 @@ module _ (ws : List ℕ) (c : ℕ) (same : Bool) where
   pub second-by : (at left : ℕ) (b : Bool) → 0 < left → beq (eqb c (get_or ws at 0)) same ≡ b → has_second ws c same at left ≡ (b || has_second ws c same (at + 2) (left - 1))
   second-by at left b l e = second-turn at left l ∙ ap (λ (x : Bool). x || has_second ws c same (at + 2) (left - 1)) e
 
-  pub second_none : (at left : ℕ) → left ≤ 0 → has_second ws c same at left ≡ false
-  second_none at left l = let e : left ≡ 0 = omega arith in rw e refl
+  -- .. k words passed, of m
+  pub second_next : (from m k : ℕ) (b : Bool) → k < m → beq (eqb c (get_or ws (from + 2 * k) 0)) same ≡ b
+      → has_second ws c same (from + 2 * k) (m - k) ≡ (b || has_second ws c same (from + 2 * (k + 1)) (m - (k + 1)))
+  second_next from m k b l e =
+      let a : from + 2 * k + 2 ≡ from + 2 * (k + 1) = omega arith in
+      let d : m - k - 1 ≡ m - (k + 1) = omega arith in
+      rw (a, d) at (second-by (from + 2 * k) (m - k) b (omega arith) e)
 
 same_true : (b : Bool) → beq b true ≡ b
 same_true true = refl
@@ -378,10 +390,15 @@ module _ (g : View) (side : Side) (p d f : ℕ) (ws : List ℕ) (m : ℕ) (l : l
 
 -- ---- the reply
 
-pub office-by : (s : List ℕ) (h : Header) (office n : ℕ) → h ≡ header_of s → n ≡ bad_office h office → n ≡ bad_office (header_of s) office
-office-by s h office n e q = q ∙ ap (λ (x : Header). bad_office x office) e
+yes-or-no : (b r : Bool) (n : ℕ) → b ≡ r → n ≡ bool_byte b → n ≡ number_of r
+yes-or-no true r n e q = q ∙ ap number_of e
+yes-or-no false r n e q = q ∙ ap number_of e
 
--- what is seen from the seat is what the question is about
-pub told-so : (s ws : List ℕ) (q : Question) (seat : Seat) (r b : Bool) → seat ≡ seat_for q → r ≡ is_path (seen_from s seat) (side_of q.kind) q.person q.deed q.folio ws → r ≡ b
-    → number_of b ≡ number_of (is_path (asked s q) (side_of q.kind) q.person q.deed q.folio ws)
-told-so s ws q seat r b o e t = ap number_of (sym t ∙ e ∙ ap (λ (x : Seat). is_path (seen_from s x) (side_of q.kind) q.person q.deed q.folio ws) o)
+-- what is seen at the office is what the question is about
+pub told-so : (at : OfficeSheet) (sheet : Sheet) (q : Question) (ws : List ℕ) (asks : Asks) (b : Bool) (n : ℕ) → (at.sheet ≡ sheet) × (at.seat ≡ seat_for q) × (bad_office sheet.header q.office ≡ 0) → side asks ≡ side_of q.kind
+    → b ≡ is_path (seen_at_seat at) (side asks) q.person q.deed q.folio ws → n ≡ bool_byte b → n ≡ number_of (is_path (asked sheet.words.now q) (side_of q.kind) q.person q.deed q.folio ws)
+told-so at sheet q ws asks b n e k h i =
+    let a = ap (λ (x : Side). is_path (seen_at_seat at) x q.person q.deed q.folio ws) k in
+    let c = ap (λ (x : Sheet). is_path (seen_from x.words.now at.seat) (side_of q.kind) q.person q.deed q.folio ws) e.0 in
+    let d = ap (λ (x : Seat). is_path (seen_from sheet.words.now x) (side_of q.kind) q.person q.deed q.folio ws) e.1 in
+    yes-or-no b _ n (h ∙ a ∙ c ∙ d) i

@@ -260,8 +260,8 @@ module _ (F : Making) (none : F 0 0 ≡ 0) (n : ℕ) (f : ℕ → Row) (A : IsTa
 
       -- the places of the rows passed
       module _ (n° : ℕ) (f° : ℕ → Row) (o o' : ℕ) (Q : TableStep n° (keys f°) o key o') (passed : (x : ℕ) → x < o → below_key (f° x).key key ≡ true) where
-        pub places-on : (map map' : ℕ → ℕ) → PlacesIn f° o map k h → ((x : ℕ) → x < o → map' x ≡ map x) → (o < o' → map' o ≡ k) → PlacesIn f° o' map' k' h'
-        places-on map map' L same new x l = go (dec_lt x o) Q
+        pub places-on : (spots map' : ℕ → ℕ) → PlacesIn f° o spots k h → ((x : ℕ) → x < o → map' x ≡ spots x) → (o < o' → map' o ≡ k) → PlacesIn f° o' map' k' h'
+        places-on spots map' L same new x l = go (dec_lt x o) Q
           where
             -- against a row that stood there, and against the one that is put
             stays-there : (z : Key) (t : Bool) (u : ℕ) → u < k → below_key (h u).key z ≡ t → below_key (h' u).key z ≡ t
@@ -270,7 +270,7 @@ module _ (F : Making) (none : F 0 0 ≡ 0) (n : ℕ) (f : ℕ → Row) (A : IsTa
             against : (z : Key) (t : Bool) (u : ℕ) → k ≤ u → u < k' → below_key key z ≡ t → below_key (h' u).key z ≡ t
             against z t u b c e = ap (λ (y : Key). below_key y z) (put_last made key k h k' h' P u b c) ∙ e
 
-            old : x < o → PlaceIs (keys h') k' (f° x).key (map x)
+            old : x < o → PlaceIs (keys h') k' (f° x).key (spots x)
             old d =
                 let p = L x d in
                 record {
@@ -279,7 +279,7 @@ module _ (F : Making) (none : F 0 0 ≡ 0) (n : ℕ) (f : ℕ → Row) (A : IsTa
                   after = λ u b c. later p u b c (dec_lt u k);
                 }
               where
-                later : PlaceIs (keys h) k (f° x).key (map x) → (u : ℕ) → map x ≤ u → u < k' → Dec (u < k) → below_key (h' u).key (f° x).key ≡ false
+                later : PlaceIs (keys h) k (f° x).key (spots x) → (u : ℕ) → spots x ≤ u → u < k' → Dec (u < k) → below_key (h' u).key (f° x).key ≡ false
                 later p u b c (yes e) = stays-there (f° x).key false u e (p.after u b e)
                 later p u b c (no e) = against (f° x).key false u (omega arith) c (below-asym (f° x).key key (passed x d))
 
@@ -366,50 +366,50 @@ module _ (F : Making) (none : F 0 0 ≡ 0) (n : ℕ) (f : ℕ → Row) (A : IsTa
 
 -- ---- two rising tables have a combination
 
-pub record Combination (F : Making) (n : ℕ) (f : ℕ → Row) (m : ℕ) (g : ℕ → Row) : Type 0 where
+pub record HasCombination (F : Making) (n : ℕ) (f : ℕ → Row) (m : ℕ) (g : ℕ → Row) : Type 0 where
   pub rows : ℕ
   pub row : ℕ → Row
   pub combined : Combined F n f m g rows row
   pub count : rows ≡ rows_kept F n f m g
 
 -- a next key, and how many rows of each table are taken then
-pub record Next (n : ℕ) (f : ℕ → Key) (m : ℕ) (g : ℕ → Key) (i j : ℕ) : Type 0 where
+pub record NextKey (n : ℕ) (f : ℕ → Key) (m : ℕ) (g : ℕ → Key) (i j : ℕ) : Type 0 where
   pub key : Key
   pub first_on : ℕ
   pub second-on : ℕ
   pub stepped : Stepped n f m g i j key first_on second-on
 
 -- while keys are left
-pub next : (n : ℕ) (f : ℕ → Key) (m : ℕ) (g : ℕ → Key) (i j : ℕ) → i + j < n + m → i ≤ n → j ≤ m → Next n f m g i j
+pub next : (n : ℕ) (f : ℕ → Key) (m : ℕ) (g : ℕ → Key) (i j : ℕ) → i + j < n + m → i ≤ n → j ≤ m → NextKey n f m g i j
 next n f m g i j l a b = go (dec_lt i n) (dec_lt j m)
   where
-    first : i < n → (j < m → below_key (f i) (g j) ≡ true) → Next n f m g i j
+    first : i < n → (j < m → below_key (f i) (g j) ≡ true) → NextKey n f m g i j
     first p u = record { key = f i; first_on = i + 1; second-on = j; stepped = record { first = takes p refl refl; second = leaves u refl; moved = omega arith } }
 
-    second : j < m → (i < n → below_key (g j) (f i) ≡ true) → Next n f m g i j
+    second : j < m → (i < n → below_key (g j) (f i) ≡ true) → NextKey n f m g i j
     second q u = record { key = g j; first_on = i; second-on = j + 1; stepped = record { first = leaves u refl; second = takes q refl refl; moved = omega arith } }
 
-    both : i < n → j < m → Lies (f i) (g j) → Next n f m g i j
+    both : i < n → j < m → Lies (f i) (g j) → NextKey n f m g i j
     both p q (lower u v w) = first p (λ d. u)
     both p q (higher u v w) = second q (λ d. u)
     both p q (equal e) = record { key = f i; first_on = i + 1; second-on = j + 1; stepped = record { first = takes p refl refl; second = takes q (sym e) refl; moved = omega arith } }
 
-    go : Dec (i < n) → Dec (j < m) → Next n f m g i j
+    go : Dec (i < n) → Dec (j < m) → NextKey n f m g i j
     go (yes p) (yes q) = both p q (lies (f i) (g j))
     go (yes p) (no q) = first p (λ d. absurd (q d))
     go (no p) (yes q) = second q (λ d. absurd (p d))
     go (no p) (no q) = absurd (omega arith)
 
 module _ (F : Making) (none : F 0 0 ≡ 0) (n : ℕ) (f : ℕ → Row) (A : IsTable n f) (m : ℕ) (g : ℕ → Row) (B : IsTable m g) where
-  over-now : (i j k : ℕ) (h : ℕ → Row) → Walked F n f m g i j k h → n + m ≤ i + j → Combination F n f m g
+  over-now : (i j k : ℕ) (h : ℕ → Row) → Walked F n f m g i j k h → n + m ≤ i + j → HasCombination F n f m g
   over-now i j k h W l = let d = walk-done F none n f A m g B i j k h W l in record { rows = k; row = h; combined = d.0; count = d.1 }
 
   -- a walk goes on to the end
-  goes_on_lem : (left i j k : ℕ) (h : ℕ → Row) → Walked F n f m g i j k h → n + m ≤ i + j + left → Combination F n f m g
+  goes_on_lem : (left i j k : ℕ) (h : ℕ → Row) → Walked F n f m g i j k h → n + m ≤ i + j + left → HasCombination F n f m g
   goes_on_lem zero i j k h W l = over-now i j k h W (omega arith)
   goes_on_lem (suc left) i j k h W l = go (dec_lt (i + j) (n + m)) (goes_on_lem left)
     where
-      go : Dec (i + j < n + m) → ((i' j' k' : ℕ) (h' : ℕ → Row) → Walked F n f m g i' j' k' h' → n + m ≤ i' + j' + left → Combination F n f m g) → Combination F n f m g
+      go : Dec (i + j < n + m) → ((i' j' k' : ℕ) (h' : ℕ → Row) → Walked F n f m g i' j' k' h' → n + m ≤ i' + j' + left → HasCombination F n f m g) → HasCombination F n f m g
       go (no d) more = over-now i j k h W (omega arith)
       go (yes d) more =
           let s = next n (keys f) m (keys g) i j d W.first-in W.second-in in
@@ -417,5 +417,5 @@ module _ (F : Making) (none : F 0 0 ≡ 0) (n : ℕ) (f : ℕ → Row) (A : IsTa
           (walk-on F none n f A m g B i j k h W s.key s.first_on s.second-on s.stepped _ _ (putting _ _ k h))
           (omega (arith, s.stepped.moved))
 
-  pub combination : Combination F n f m g
+  pub combination : HasCombination F n f m g
   combination = goes_on_lem (n + m) 0 0 0 (λ u. record { key = []; marks = 0 }) (walk-starts F none n f A m g B _) (omega arith)

@@ -166,15 +166,15 @@ module _ (N E : Making) (c : ℕ) (a b : List ℕ) (va : Accepted a) (vb : Accep
     to : EndStands v (edge_at (header_of t) we v).to (node_key_at from-sheet (edge_of from-sheet place).to)
 
   -- an end's marks bear the row's, so it stays
-  end : (v x : ℕ) (k : Key) (map : ℕ → ℕ) (s : List ℕ) (p : ℕ) → v < e → within (E (marks_at (rows_of (header_of a).edges (edge_row a (edge_table a))) (rowE v).key) (marks_at (rows_of (header_of b).edges (edge_row b (edge_table b))) (rowE v).key))
+  end : (v x : ℕ) (k : Key) (spots : ℕ → ℕ) (s : List ℕ) (p : ℕ) → v < e → within (E (marks_at (rows_of (header_of a).edges (edge_row a (edge_table a))) (rowE v).key) (marks_at (rows_of (header_of b).edges (edge_row b (edge_table b))) (rowE v).key))
       (N (marks_at (rows_of (header_of a).nodes (node_row a)) k) (marks_at (rows_of (header_of b).nodes (node_row b)) k)) ≡ true
-      → PlacesIn (node_row s) (header_of s).nodes map n rowN → p < (header_of s).nodes → node_key_at s p ≡ k → x ≡ map p → EndStands v x k
+      → PlacesIn (node_row s) (header_of s).nodes spots n rowN → p < (header_of s).nodes → node_key_at s p ≡ k → x ≡ spots p → EndStands v x k
   unfolding node_row
-  end v x k map s p l inside L d e q =
+  end v x k spots s p l inside L d e q =
       let m : within (rowE v).marks (marks_at (rows_of n rowN) k) ≡ true = ap₂ within (sym (edge_here v l) ∙ CE.marks (rowE v).key) (CN.marks k) ∙ inside in
       let some : 0 < marks_at (rows_of n rowN) k = within-some _ _ m (CE.table.some v l) in
       let at = row_of n rowN k some in
-      let r = stands-there (keys rowN) n CN.table.up k (map p) at.row (subst (λ (y : Key). PlaceIs (keys rowN) n y (map p)) e (L p d)) at.inside at.names in
+      let r = stands-there (keys rowN) n CN.table.up k (spots p) at.row (subst (λ (y : Key). PlaceIs (keys rowN) n y (spots p)) e (L p d)) at.inside at.names in
       let there : x < n = omega (arith, q, r.0) in
       let named : (rowN x).key ≡ k = ap (λ (y : ℕ). (rowN y).key) q ∙ r.1 in
       let o : (node_at t x).offices ≡ marks_at (rows_of n rowN) k = ap (λ (y : Node). y.offices) (node-from x there).is ∙ sym (node-here x there) ∙ ap (marks_at (rows_of n rowN)) named in
@@ -194,10 +194,10 @@ module _ (N E : Making) (c : ℕ) (a b : List ℕ) (va : Accepted a) (vb : Accep
           (N (marks_at (rows_of (header_of a).nodes (node_row a)) (identity t' n' u')) (marks_at (rows_of (header_of b).nodes (node_row b)) (identity t' n' u'))) ≡ true
       made-to kind t n u t' n' u' q = rw (← q) (R.inside _ _ _ _ (half-low a (header_of a) va Edges _) (half-low a (header_of a) va Nodes _) (half-low b (header_of b) vb Edges _) (half-low b (header_of b) vb Nodes _) (to-within a va kind t n u t' n' u') (to-within b vb kind t n u t' n' u'))
 
-      via : (s : List ℕ) (vs : Accepted s) (map : List ℕ) → PlacesIn (node_row s) (header_of s).nodes (through map) n rowN → (x : ℕ) → x < (header_of s).edges → (edge_row s (edge_table s) x).key ≡ (rowE v).key
-          → cells_in Edges (header_of a).form we v ≡ spelled map (cells_at Edges s x) (rowE v).marks → EdgeFrom v
-      via s vs map L x d k at =
-          let q : edge_at (header_of t) we v ≡ record { kind = (edge_of s x).kind; from = through map (edge_of s x).from; to = through map (edge_of s x).to; offices = (rowE v).marks } =
+      via : (s : List ℕ) (vs : Accepted s) (spots : List ℕ) → PlacesIn (node_row s) (header_of s).nodes (through spots) n rowN → (x : ℕ) → x < (header_of s).edges → (edge_row s (edge_table s) x).key ≡ (rowE v).key
+          → cells_in Edges (header_of a).form we v ≡ spelled spots (cells_at Edges s x) (rowE v).marks → EdgeFrom v
+      via s vs spots L x d k at =
+          let q : edge_at (header_of t) we v ≡ record { kind = (edge_of s x).kind; from = through spots (edge_of s x).from; to = through spots (edge_of s x).to; offices = (rowE v).marks } =
           built-edge (header_of a).form c n e wn we SN.long SE.long v ∙ ap (λ (z : Cells). record { kind = z.first; from = z.second; to = z.third; offices = z.offices }) at in
           let p = vs.edges.shaped x d in
           let y = edge-named s x (rowE v).key k in
@@ -209,8 +209,8 @@ module _ (N E : Making) (c : ℕ) (a b : List ℕ) (va : Accepted a) (vb : Accep
             kind = ap (λ (z : Edge). z.kind) q;
             marks = ap (λ (z : Edge). z.offices) q;
             key = k;
-            from = end v _ _ (through map) s _ l (made-from _ _ _ _ _ _ _ y) L p.from refl (ap (λ (z : Edge). z.from) q);
-            to = end v _ _ (through map) s _ l (made-to _ _ _ _ _ _ _ y) L p.to refl (ap (λ (z : Edge). z.to) q);
+            from = end v _ _ (through spots) s _ l (made-from _ _ _ _ _ _ _ y) L p.from refl (ap (λ (z : Edge). z.from) q);
+            to = end v _ _ (through spots) s _ l (made-to _ _ _ _ _ _ _ y) L p.to refl (ap (λ (z : Edge). z.to) q);
           }
 
       go : Spelled Edges a (header_of a) b (header_of b) ma mb (rowE v) (cells_in Edges (header_of a).form we v) → EdgeFrom v

@@ -3,6 +3,7 @@ pub mod Counting
 pub mod Reading
 pub mod Alike
 pub mod Walking
+pub mod Stepping
 pub mod Laying
 pub mod Whole
 pub mod Ruling

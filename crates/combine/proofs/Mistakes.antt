@@ -7,7 +7,7 @@ use Rattle.sheet.specs.declared.Cells.{Cells}
 use Rattle.combine.specs.Halves.{through, spelled}
 
 abbrev ends_renumbered_twice : List ℕ → Cells → ℕ → Cells
-ends_renumbered_twice map c marks = record { first = c.first; second = through map (through map c.second); third = through map (through map c.third); offices = marks }
+ends_renumbered_twice spots c marks = record { first = c.first; second = through spots (through spots c.second); third = through spots (through spots c.third); offices = marks }
 
 -- person 11 in category 21, rows 0 and 1
 abbrev in_row : Cells

@@ -1,11 +1,14 @@
 -- Any two results of measuring are the same counts and places, and any two sheets that are the same combination the same words: marks at every key decide a sheet.
 -- Assumes nothing.
 use Prim.Native.Nat.{ℕ, suc, ◌<◌}
-use mathlib.Core.Path.{◌≡◌, sym, ap, subst, ◌∙◌}
+use mathlib.Core.Path.{◌≡◌, refl, sym, ap, subst, ◌∙◌}
 use mathlib.Core.List.{List, ◌++◌}
 use native.Mathlib.Omega.{arith}
 use lib.ListN.{length, get_or, drop}
+use Rattle.std.specs.Prelude.{Result, Ok}
 use Rattle.tables.specs.Marks.{marked}
+use Rattle.sheet.specs.declared.fault.Fault.{Fault}
+use Rattle.combine.specs.Made.{PutsCombined, short, written}
 use Rattle.sheet.specs.declared.Header.{Header}
 use Rattle.sheet.specs.Found.{PlaceIs}
 use Rattle.sheet.proofs.Naming.{marks-held}
@@ -27,11 +30,11 @@ module _ (nodes edges : Rule) (c : ℕ) (a : List ℕ) (h : Header) (b : List �
   counts-one = (M.node-rows.count ∙ sym M'.node-rows.count, M.edge-rows ∙ sym M'.edge-rows)
 
   -- one law for both maps
-  place_same : (s : List ℕ) (n : ℕ) (map map' : ℕ → ℕ) → PlacesIn (row_at Nodes s) n map m.nodes M.node-rows.row → PlacesIn (row_at Nodes s) n map' m'.nodes M'.node-rows.row → (x : ℕ) → x < n → map x ≡ map' x
-  place_same s n map map' L L' x l =
+  place_same : (s : List ℕ) (n : ℕ) (spots map' : ℕ → ℕ) → PlacesIn (row_at Nodes s) n spots m.nodes M.node-rows.row → PlacesIn (row_at Nodes s) n map' m'.nodes M'.node-rows.row → (x : ℕ) → x < n → spots x ≡ map' x
+  place_same s n spots map' L L' x l =
       let rows = half-one nodes Nodes a h b g (node-inputs nodes edges c a h b g Q) c Q.rules.nodes m.nodes m'.nodes M.node-rows.row M'.node-rows.row M.node-rows.combined M'.node-rows.combined in
-      place-one (keys M'.node-rows.row) m'.nodes M'.node-rows.combined.table.up (row_at Nodes s x).key (map x) (map' x)
-      (subst (λ (k : ℕ). PlaceIs (keys M'.node-rows.row) k (row_at Nodes s x).key (map x)) rows.0 (place-alike _ _ m.nodes _ _ rows.1 (L x l))) (L' x l)
+      place-one (keys M'.node-rows.row) m'.nodes M'.node-rows.combined.table.up (row_at Nodes s x).key (spots x) (map' x)
+      (subst (λ (k : ℕ). PlaceIs (keys M'.node-rows.row) k (row_at Nodes s x).key (spots x)) rows.0 (place-alike _ _ m.nodes _ _ rows.1 (L x l))) (L' x l)
 
   pub places-one : ((x : ℕ) → x < h.nodes → get_or ma x 0 ≡ get_or ma' x 0) × ((y : ℕ) → y < g.nodes → get_or mb y 0 ≡ get_or mb' y 0)
   places-one = (
@@ -51,3 +54,12 @@ combined-alike N E c a b t t' x y =
 pub laid_one : (nodes edges : Rule) (c : ℕ) (a : List ℕ) (h : Header) (b : List ℕ) (g : Header) (m : Measure) (out o o' : List ℕ) → Laid nodes edges c a h b g m out o → Laid nodes edges c a h b g m out o' → o ≡ o'
 laid_one nodes edges c a h b g m out o o' x y =
     x.holds ∙ ap (λ (s : List ℕ). s ++ drop (length s) out) (combined-alike _ _ c a b x.sheet y.sheet x.is y.is) ∙ sym y.holds
+
+-- ---- what is put into an output
+
+module _ (R : List ℕ → Type 0) (one : (t u : List ℕ) → R t → R u → t ≡ u) (out : List ℕ) where
+  pub puts-one : {r r' : Result ℕ Fault} {o o' : List ℕ} → PutsCombined R out r o → PutsCombined R out r' o' → (r ≡ r') × (o ≡ o')
+  puts-one (short t x l) (short u y d) = (refl, refl)
+  puts-one (short t x l) (written u y d) = let e = ap length (one t u x y) in absurd (omega arith)
+  puts-one (written t x l) (short u y d) = let e = ap length (one t u x y) in absurd (omega arith)
+  puts-one (written t x l) (written u y d) = let e = one t u x y in (ap (λ (w : List ℕ). Ok (length w)) e, ap (λ (w : List ℕ). w ++ drop (length w) out) e)

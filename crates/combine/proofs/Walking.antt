@@ -24,34 +24,33 @@ use Rattle.sheet.specs.Stored.{stored}
 use Rattle.sheet.proofs.Storing.{stored-long, cells-kept, cells-new, stored_on}
 use Rattle.sheet.proofs.Widths.{rows_few, place-start, place-next, place-before}
 use Rattle.combine.specs.declared.Rule.{Rule}
-use Rattle.combine.specs.declared.Next.{Next}
 use Rattle.combine.specs.Combined.{keys, IsTable, first_stays, second_stays, TableStep, takes, leaves, given, Walked, Put, PlacesIn}
 use Rattle.combine.specs.Rules.{makes}
-use Rattle.combine.specs.Halves.{Inputs, MarkedStep, Left, kept_rows, noted, Surveyed, Spelled, by_first, by-second, Words, Written, stored_at, taken_cells}
+use Rattle.combine.specs.Halves.{Inputs, Next, MarkedStep, kept_rows, noted, Surveyed, Spelled, by_first, by-second, Words, Written, stored_at, taken_cells}
 use Rattle.combine.proofs.Combining.{row_behind, putting-as, side-inside, next, walk-starts, walk-on, walk-done, walk-room, places-on, first-passed, second-passed}
 use Rattle.combine.proofs.Reading.{half-table, stored_some, stored-none, taken-marks, taken-first, taken-second}
 
 -- ---- places noted
 
-noted-long : (map : List ℕ) (from to place : ℕ) → length (noted map from to place) ≡ length map
+noted-long : (spots : List ℕ) (from to place : ℕ) → length (noted spots from to place) ≡ length spots
 unfolding noted
-noted-long map from to place = go (ltb from to)
+noted-long spots from to place = go (ltb from to)
   where
-    go : (b : Bool) → length (cond b (set map from place) map) ≡ length map
-    go true = length-set {A = ℕ} map from place
+    go : (b : Bool) → length (cond b (set spots from place) spots) ≡ length spots
+    go true = length-set {A = ℕ} spots from place
     go false = refl
 
-noted-old : (map : List ℕ) (from to place x : ℕ) → x < from → get_or (noted map from to place) x 0 ≡ get_or map x 0
+noted-old : (spots : List ℕ) (from to place x : ℕ) → x < from → get_or (noted spots from to place) x 0 ≡ get_or spots x 0
 unfolding noted
-noted-old map from to place x l = go (ltb from to)
+noted-old spots from to place x l = go (ltb from to)
   where
-    go : (b : Bool) → get_or (cond b (set map from place) map) x 0 ≡ get_or map x 0
-    go true = get_or-set_other map from x place 0 (λ q. omega arith)
+    go : (b : Bool) → get_or (cond b (set spots from place) spots) x 0 ≡ get_or spots x 0
+    go true = get_or-set_other spots from x place 0 (λ q. omega arith)
     go false = refl
 
-noted-new : (map : List ℕ) (from to place : ℕ) → from < to → from < length map → get_or (noted map from to place) from 0 ≡ place
+noted-new : (spots : List ℕ) (from to place : ℕ) → from < to → from < length spots → get_or (noted spots from to place) from 0 ≡ place
 unfolding noted
-noted-new map from to place l h = rw (lt-ltb from to l) (get_or-set_same map from place 0 h)
+noted-new spots from to place l h = rw (lt-ltb from to l) (get_or-set_same spots from place 0 h)
 
 -- ---- the loops
 
@@ -92,10 +91,6 @@ module _ (rule : Rule) (half : Half) (a : List ℕ) (h : Header) (b : List ℕ) 
       record { row = no_rows; words = []; walked = start; spells = record { long = sym z; each = λ u l. absurd (omega arith) }; holds = ap (λ (x : ℕ). drop x out) (sym z) }
 
   module _ (i j k : ℕ) (row : ℕ → Row) (W : Walked (makes rule) (count_in half h) (row_at half a) (count_in half g) (row_at half b) i j k row) where
-    -- while rows are left there is a next one
-    pub left : (all : ℕ) → all ≡ count_in half h + count_in half g → i + j < all → Left half h g i j
-    left all e l = record { first = W.first-in; second = W.second-in; some = omega arith }
-
     -- a walk's numbers are small
     pub small : (i ≤ most_edges) × (j ≤ most_edges) × (k ≤ most_edges + most_edges)
     small =
@@ -132,12 +127,12 @@ module _ (rule : Rule) (half : Half) (a : List ℕ) (h : Header) (b : List ℕ) 
         }
       where
         places : (n° : ℕ) (f° : ℕ → Row) (T : IsTable n° f°) (o o' : ℕ) (Q : TableStep n° (keys f°) o S.moves.key o') → ((x : ℕ) → x < o → below_key (f° x).key S.moves.key ≡ true)
-            → (map map' : List ℕ) → map' ≡ noted map o o' k → n° ≤ length map' → PlacesIn f° o (λ x. get_or map x 0) k X.row → PlacesIn f° o' (λ x. get_or map' x 0) k' (next_row i j k X.row X.walked r S)
-        places n° f° T o o' Q passed map map' e n L =
+            → (spots map' : List ℕ) → map' ≡ noted spots o o' k → n° ≤ length map' → PlacesIn f° o (λ x. get_or spots x 0) k X.row → PlacesIn f° o' (λ x. get_or map' x 0) k' (next_row i j k X.row X.walked r S)
+        places n° f° T o o' Q passed spots map' e n L =
             places-on (makes rule) I.none _ _ A _ _ B i j k X.row X.walked S.moves.key r.i r.j S.moves.stepped k' _ (P i j k X.row X.walked r S k' count) n° f° o o' Q passed
-            (λ x. get_or map x 0) (λ x. get_or map' x 0) L
-            (λ x l. ap (λ (t : List ℕ). get_or t x 0) e ∙ noted-old map o o' k x l)
-            (λ l. ap (λ (t : List ℕ). get_or t o 0) e ∙ noted-new map o o' k l (omega (arith, side-inside n° f° T o S.moves.key o' Q l, ap length e, noted-long map o o' k)))
+            (λ x. get_or spots x 0) (λ x. get_or map' x 0) L
+            (λ x l. ap (λ (t : List ℕ). get_or t x 0) e ∙ noted-old spots o o' k x l)
+            (λ l. ap (λ (t : List ℕ). get_or t o 0) e ∙ noted-new spots o o' k l (omega (arith, side-inside n° f° T o S.moves.key o' Q l, ap length e, noted-long spots o o' k)))
 
     pub writing-on : (ma mb out₀ out : List ℕ) (X : Writing rule half a h b g ma mb i j k out₀ out) (e : Cells) (out' : List ℕ) → e ≡ taken_cells half a ma b mb i r.i j r.marks → out' ≡ stored_at half h.form out k e
         → row_place half h.form (kept_rows rule half a h b g) ≤ length out₀ → Writing rule half a h b g ma mb r.i r.j k' out₀ out'

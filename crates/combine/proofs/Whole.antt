@@ -20,9 +20,18 @@ use Rattle.sheet.specs.declared.Half.{Half}
 use Rattle.sheet.specs.declared.Half.TheVariants.{Nodes, Edges}
 use Rattle.combine.specs.declared.Rule.{Rule}
 use Rattle.combine.specs.declared.Measure.{Measure}
+use Rattle.combine.specs.declared.Places.{Places}
+use Rattle.std.specs.Prelude.{Result, Ok, Err}
+use Rattle.sheet.specs.declared.fault.Fault.{Fault}
+use Rattle.sheet.specs.declared.fault.Fault.TheVariants.{OutputShort}
 use Rattle.combine.specs.Combined.{keys, Combined, PlacesIn}
 use Rattle.combine.specs.Rules.{makes}
-use Rattle.combine.specs.Halves.{Inputs, through, Written, kept_rows}
+use Rattle.combine.specs.declared.combination.Combination.{Combination}
+use Rattle.combine.specs.declared.halves.Halves.{Halves}
+use Rattle.combine.specs.Rules.{rule_in}
+use Rattle.combine.specs.Halves.{Inputs, through, Surveyed, Written, kept_rows}
+use Rattle.combine.specs.Meets.{rows_kept_in, SurveyedIn, WrittenIn}
+use Rattle.combine.specs.Made.{IsHalf, MeasuredAs, LaidAs, PutsCombined, PutsAs, short, written}
 use Rattle.combine.specs.Sheets.{IsCombined, Pair, Measured, Laid}
 use Rattle.combine.proofs.Reading.{entry-inside}
 use Rattle.combine.proofs.Walking.{writes}
@@ -45,11 +54,11 @@ module _ (nodes edges : Rule) (c : ℕ) (a : List ℕ) (h : Header) (b : List �
 module _ (nodes edges : Rule) (c : ℕ) (a b : List ℕ) (Q : Pair nodes edges c a (header_of a) b (header_of b)) (ma mb : List ℕ) (m : Measure) (M : Measured nodes edges a (header_of a) b (header_of b) ma mb m)
     (few-nodes : m.nodes ≤ max_nodes) (few-edges : m.edges ≤ max_edges (header_of a).form) where
   -- the places that were noted are places in what is written
-  places : (s : List ℕ) (map : List ℕ) → Accepted s → length map ≡ max_nodes → (row : ℕ → Row) → Combined (makes nodes) (header_of a).nodes (node_row a) (header_of b).nodes (node_row b) m.nodes row
-      → ((header_of s).nodes ≤ length map → PlacesIn (node_row s) (header_of s).nodes (λ x. get_or map x 0) m.nodes M.node-rows.row) → PlacesIn (node_row s) (header_of s).nodes (through map) m.nodes row
-  places s map v long row C L x l =
-      let fits : (header_of s).nodes ≤ length map = omega (arith, v.nodes.header.nodes) in
-      subst (PlaceIs (keys row) m.nodes (node_row s x).key) (entry-inside map x (omega arith))
+  places : (s : List ℕ) (spots : List ℕ) → Accepted s → length spots ≡ max_nodes → (row : ℕ → Row) → Combined (makes nodes) (header_of a).nodes (node_row a) (header_of b).nodes (node_row b) m.nodes row
+      → ((header_of s).nodes ≤ length spots → PlacesIn (node_row s) (header_of s).nodes (λ x. get_or spots x 0) m.nodes M.node-rows.row) → PlacesIn (node_row s) (header_of s).nodes (through spots) m.nodes row
+  places s spots v long row C L x l =
+      let fits : (header_of s).nodes ≤ length spots = omega (arith, v.nodes.header.nodes) in
+      subst (PlaceIs (keys row) m.nodes (node_row s x).key) (entry-inside spots x (omega arith))
       (place-alike M.node-rows.row row m.nodes _ _ same.1 (L fits x l))
     where
       same : (m.nodes ≡ m.nodes) × ((u : ℕ) → u < m.nodes → M.node-rows.row u ≡ row u)
@@ -119,3 +128,33 @@ there nodes edges c a h b g ma mb m Q M x y =
     (omega (arith, ap (edge_place h.form) M.edge-rows, second-room l N.after 6 (edges_from m.nodes) (edge_place h.form m.edges) (omega arith) (written-long _ _ _ _ _ _ _ _ _ _ _ N.is (omega (arith, M.node-rows.count, first-room h.form l m.nodes m.edges (omega arith)))) (omega arith))) in
     let L = laid_by nodes edges c a h b g ma mb m Q M x y out l room refl N.after N.is k refl E.after E.is in
     record { sheet = L.sheet; is = L.is; long = L.long }
+
+-- ---- the halves of a combination
+
+module _ (C : Combination) (half : Half) (H : Halves) (q : IsHalf C half H) where
+  pub half-surveyed : (ma mb : List ℕ) (k : ℕ) → SurveyedIn H ma mb k → Surveyed (rule_in half C.plan) half C.first.now.words.now C.first.now.header C.second.now.words.now C.second.now.header ma mb k
+  half-surveyed ma mb k X = rw (← q.rule, ← q.half-is, ← q.first, ← q.second) X
+
+  pub half-written : (ma mb out out' : List ℕ) → WrittenIn H ma mb out out'
+      → Written (rule_in half C.plan) half C.first.now.words.now C.first.now.header C.second.now.words.now C.second.now.header ma mb (kept_rows (rule_in half C.plan) half C.first.now.words.now C.first.now.header C.second.now.words.now C.second.now.header) out out'
+  half-written ma mb out out' X = rw (← q.rule, ← q.half-is, ← q.first, ← q.second) X
+
+  -- the room that its rows take
+  pub half-room : row_place H.half H.first.now.header.form (rows_kept_in H) ≡ row_place half C.first.now.header.form (kept_rows (rule_in half C.plan) half C.first.now.words.now C.first.now.header C.second.now.words.now C.second.now.header)
+  half-room = rw (← q.rule, ← q.half-is, ← q.first, ← q.second) refl
+
+-- ---- the combination, put into an output
+
+module _ (C : Combination) (m : Measure) (out : List ℕ) where
+  pub put-short : (p : Places) → MeasuredAs C p m → m.nodes ≤ max_nodes → m.edges ≤ max_edges C.first.now.header.form → length out < sheet_words C.first.now.header.form m.nodes m.edges → PutsAs C out (Err OutputShort) out
+  put-short p M x y l = let T = there _ _ _ _ _ _ _ _ _ m C.sound M x y in short T.sheet T.is (omega (arith, T.long))
+
+  pub put-written : (out' : List ℕ) (n : ℕ) → n ≡ sheet_words C.first.now.header.form m.nodes m.edges → n ≤ length out → LaidAs C m out out' → PutsAs C out (Ok n) out'
+  put-written out' n e l L =
+      let q : n ≡ length L.sheet = e ∙ sym L.long in
+      rw (q, L.holds) (written L.sheet L.is (omega arith))
+
+-- a sheet of which more is known
+pub put-out-as : {R Q : List ℕ → Type 0} (out : List ℕ) (r : Result ℕ Fault) (out' : List ℕ) → ((t : List ℕ) → R t → Q t) → PutsCombined R out r out' → PutsCombined Q out r out'
+put-out-as out r out' f (short t x l) = short t (f t x) l
+put-out-as out r out' f (written t x l) = written t (f t x) l

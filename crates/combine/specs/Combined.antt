@@ -69,4 +69,4 @@ pub data Put (marks : ℕ) (key : Key) (k : ℕ) (h : ℕ → Row) (k' : ℕ) (h
 
 -- where the first i rows of a table stand in the combination, or would stand where they have no marks there: the places that a search for them finds
 abbrev pub PlacesIn : (ℕ → Row) → ℕ → (ℕ → ℕ) → ℕ → (ℕ → Row) → Type 0
-PlacesIn f i map k h = (x : ℕ) → x < i → PlaceIs (keys h) k (f x).key (map x)
+PlacesIn f i spots k h = (x : ℕ) → x < i → PlaceIs (keys h) k (f x).key (spots x)

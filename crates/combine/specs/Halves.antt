@@ -1,6 +1,6 @@
 -- Node rows and edge rows alike: what the combining functions make of two sheets'.
 -- Assumes nothing.
-use Rattle.std.specs.Prelude.{ℕ, ◌+◌, ◌^◌, ◌<◌, ◌≤◌, ◌≡◌, cond, List, ◌++◌, ltb, length, get_or, drop, set}
+use Rattle.std.specs.Prelude.{ℕ, ◌^◌, ◌<◌, ◌≤◌, ◌≡◌, cond, List, ◌++◌, ltb, length, get_or, drop, set}
 use Rattle.std.proofs.lemmas.List.Edits.{sets}
 use Rattle.tables.specs.Key.{Key}
 use Rattle.tables.specs.Table.{Row}
@@ -12,17 +12,16 @@ use Rattle.sheet.specs.Named.{row_at}
 use Rattle.sheet.specs.Accepted.{WellFormed}
 use Rattle.sheet.specs.Stored.{stored}
 use Rattle.combine.specs.declared.Rule.{Rule}
-use Rattle.combine.specs.declared.Next.{Next}
 use Rattle.combine.specs.Combined.{keys, Combined, rows_kept, Stepped, given, PlacesIn}
 use Rattle.combine.specs.Rules.{makes, Safe}
 
 -- a number's entry in a map, or itself where the map has none: the empty map leaves every number
 unfoldable pub through : List ℕ → ℕ → ℕ
-through map x = get_or map x x
+through spots x = get_or spots x x
 
 -- a row under other marks, its second and third word by a map
 unfoldable pub spelled : List ℕ → Cells → ℕ → Cells
-spelled map c marks = record { first = c.first; second = through map c.second; third = through map c.third; offices = marks }
+spelled spots c marks = record { first = c.first; second = through spots c.second; third = through spots c.third; offices = marks }
 
 -- two sheets that passed the check, with their headers, and a rule that is safe on their marks
 pub record Inputs (a : List ℕ) (h : Header) (b : List ℕ) (g : Header) (rule : Rule) : Type 0 where
@@ -30,6 +29,12 @@ pub record Inputs (a : List ℕ) (h : Header) (b : List ℕ) (g : Header) (rule 
   pub second : WellFormed b (edge_table b) g
   pub safe : (x y : ℕ) → x < 2 ^ h.offices → y < 2 ^ g.offices → Safe rule x y
   pub none : makes rule 0 0 ≡ 0
+
+-- how far a walk has come in each table after a row, and the row's marks
+pub record Next : Type 0 where
+  pub i : ℕ
+  pub j : ℕ
+  pub marks : ℕ
 
 -- a step, and its key
 pub record Moves (n : ℕ) (f : ℕ → Row) (m : ℕ) (g : ℕ → Row) (i j next-i next-j : ℕ) : Type 0 where
@@ -41,12 +46,6 @@ pub record MarkedStep (rule : Rule) (half : Half) (a : List ℕ) (h : Header) (b
   pub moves : Moves (count_in half h) (row_at half a) (count_in half g) (row_at half b) i j r.i r.j
   pub made : r.marks ≡ makes rule (given (row_at half a) i r.i) (given (row_at half b) j r.j)
 
--- rows are left, after i and j of them
-pub record Left (half : Half) (h g : Header) (i j : ℕ) : Type 0 where
-  pub first : i ≤ count_in half h
-  pub second : j ≤ count_in half g
-  pub some : i + j < count_in half h + count_in half g
-
 -- how many rows the combination of a half has
 abbrev pub kept_rows : Rule → Half → List ℕ → Header → List ℕ → Header → ℕ
 kept_rows rule half a h b g = rows_kept (makes rule) (count_in half h) (row_at half a) (count_in half g) (row_at half b)
@@ -57,7 +56,7 @@ HalfIs rule half a h b g k row = Combined (makes rule) (count_in half h) (row_at
 
 -- a map after a row's place is noted, where the walk took the row
 unfoldable pub noted : List ℕ → ℕ → ℕ → ℕ → List ℕ
-noted map from to place = cond (ltb from to) (set map from place) map
+noted spots from to place = cond (ltb from to) (set spots from place) spots
 
 -- the rows of the combination, counted, and where the rows of both sheets stand in it, as far as the maps go
 pub record Surveyed (rule : Rule) (half : Half) (a : List ℕ) (h : Header) (b : List ℕ) (g : Header) (ma mb : List ℕ) (k : ℕ) : Type 0 where

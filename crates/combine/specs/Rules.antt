@@ -2,6 +2,10 @@
 -- Assumes nothing.
 use Rattle.std.specs.Prelude.{ℕ, ◌+◌, ◌*◌, ◌/◌, ◌%◌, ◌^◌, ◌<◌, ◌≡◌, true}
 use Rattle.std.specs.Int.Bits.{bit_or}
+use Rattle.std.specs.Coded.{×_prop, Unit-prop, le_prop}
+use Rattle.sheet.specs.declared.Half.{Half}
+use Rattle.sheet.specs.declared.Half.TheVariants.{Nodes, Edges}
+use Rattle.combine.specs.declared.Plan.{Plan}
 use Rattle.tables.specs.Marks.{within}
 use Rattle.combine.specs.declared.Rule.{Rule}
 use Rattle.combine.specs.declared.Rule.TheVariants.{Beside, Run, Either}
@@ -18,6 +22,17 @@ abbrev pub Safe : Rule → ℕ → ℕ → Type 0
 Safe (Beside shift) x y = x + shift * y < 4294967296
 Safe (Run low span) x y = (0 < low) × (0 < span)
 Safe Either x y = Unit {0}
+
+-- which is a fact
+pub Safe-prop : (rule : Rule) (x y : ℕ) → IsProp (Safe rule x y)
+Safe-prop (Beside shift) x y = le_prop
+Safe-prop (Run low span) x y = ×_prop le_prop le_prop
+Safe-prop Either x y = Unit-prop
+
+-- a plan's rule for a half
+abbrev pub rule_in : Half → Plan → Rule
+rule_in Nodes plan = plan.nodes
+rule_in Edges plan = plan.edges
 
 -- of marks of so many offices it makes marks of so many, and none of none
 pub record Sound (F : Making) (a b c : ℕ) : Type 0 where

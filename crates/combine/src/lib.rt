@@ -1,19 +1,28 @@
 // Two sheets combined row by row: at each identity and relation the marks that a rule makes of both sheets', and no row where it makes none.
 #![tactic(auto)]
 
-ghost use Rattle.std.specs.Prelude.{◌≡◌, ltb, ◌+◌, ◌<◌, ◌≤◌, length};
-ghost use Rattle.tables.specs.Count.{number_of};
+ghost use Rattle.std.specs.Prelude.{◌≡◌, ◌+◌, ◌-◌, ◌<◌, ◌≤◌, length};
+ghost use Rattle.std.specs.Iterator.{at_most};
 ghost use Rattle.tables.specs.Key.{below_key};
-ghost use Rattle.sheet.specs.Accepted.{WellFormed};
 ghost use Rattle.sheet.specs.Limits.{max_nodes, max_edges, sheet_words};
-ghost use Rattle.sheet.specs.Rows.{edge_table, count_in, row_words, row_place};
+ghost use Rattle.sheet.specs.Rows.{count_in, row_place};
 ghost use Rattle.sheet.specs.Named.{row_at};
-ghost use Rattle.combine.specs.Combined.{given};
+ghost use Rattle.sheet.specs.declared.Half.TheVariants.{Nodes, Edges};
 ghost use Rattle.combine.specs.Rules.{makes, Safe};
-ghost use Rattle.combine.specs.Halves.{through, spelled, Inputs, Moves, MarkedStep, Left, noted, kept_rows, Surveyed, Written, stored_at, taken_cells};
-ghost use Rattle.combine.specs.Sheets.{Pair, Measured, Laid};
+ghost use Rattle.combine.specs.Halves.{through, spelled};
+ghost use Rattle.combine.specs.Meets.{first_count, second_count, AreRows, StepFrom, Comes, marks_made, row_made, place_noted, rows_kept_in, SurveyedIn, WrittenIn};
+ghost use Rattle.combine.specs.Made.{IsHalf, MeasuredAs, LaidAs, kept_of, PutsAs};
 
-use sheet::{Cells, Half, Header};
+mod combination;
+mod halves;
+mod meeting;
+mod merge;
+
+pub use combination::Combination;
+use halves::Halves;
+use meeting::Meeting;
+use merge::Merge;
+use sheet::{Cells, Fault, Half, Sheet};
 
 // What is made of the marks of two sheets at one key: the second's behind the first's offices, which the shift counts; those of a
 // run of the first's offices, from the mark `low` on, as many as the span counts; or the marks of either.
@@ -39,366 +48,249 @@ pub struct Measure {
     pub edges: usize,
 }
 
-// How far a walk has come in each table.
-#[derive(Clone, Copy)]
-struct Passed {
-    i: usize,
-    j: usize,
+// One number for each node row that a sheet may have.
+pub const ROWS: usize = sheet::MAX_NODES as usize;
+
+// The places of both sheets' node rows in the combination.
+#[derive(Drop)]
+pub struct Places {
+    pub first: [u32; ROWS],
+    pub second: [u32; ROWS],
 }
 
-// How far a walk has come in each table after a row, and the row's marks.
-#[derive(Clone, Copy)]
-struct Next {
-    i: usize,
-    j: usize,
-    marks: u32,
-}
-
-// The marks that a rule makes.
-fn made(rule: Rule, x: u32, y: u32) -> u32
-    requires { Safe rule x y }
-    ensures { result ≡ makes rule x y }
-{
-    match rule {
-        Rule::Beside(shift) => x + shift * y,
-        Rule::Run(low, span) => x / low % span,
-        Rule::Either => x | y,
+impl Rule {
+    // The marks that the rule makes.
+    fn made(self, x: u32, y: u32) -> u32
+        requires { Safe self x y }
+        ensures { result ≡ makes self x y }
+    {
+        match self {
+            Rule::Beside(shift) => x + shift * y,
+            Rule::Run(low, span) => x / low % span,
+            Rule::Either => x | y,
+        }
     }
 }
 
 // Whether a row of a half is lower than one of another sheet.
-fn below_at(
-    half: Half,
-    first: &[u32],
-    h: Header,
-    i: usize,
-    second: &[u32],
-    g: Header,
-    j: usize,
-) -> bool
-    requires { WellFormed first.now (edge_table first.now) h × (i < count_in half h) × WellFormed second.now (edge_table second.now) g × (j < count_in half g) }
-    ensures { result ≡ below_key (row_at half first.now i).key (row_at half second.now j).key }
+fn is_below(half: Half, first: &Sheet<'_>, i: usize, second: &Sheet<'_>, j: usize) -> bool
+    requires { (i < count_in half first.now.header) × (j < count_in half second.now.header) }
+    ensures { result ≡ below_key (row_at half first.now.words.now i).key (row_at half second.now.words.now j).key }
 {
     match half {
-        Half::Nodes => {
-            let x = sheet::cells_at(Half::Nodes, first, h, i);
-            let y = sheet::cells_at(Half::Nodes, second, g, j);
-            sheet::below_row(x, y)
-        }
-        Half::Edges => sheet::below_named(first, h, i, second, g, j),
+        Half::Nodes => first.cells(Half::Nodes, i).key() < second.cells(Half::Nodes, j).key(),
+        Half::Edges => first.is_below(i, second, j),
     }
 }
 
-// A sheet's marks at the key of a step: those of its row where the walk took it, else none.
-fn marks_given(half: Half, sheet: &[u32], h: Header, from: usize, to: usize) -> u32
-    requires { WellFormed sheet.now (edge_table sheet.now) h × (from < to → from < count_in half h) }
-    ensures { result ≡ given (row_at half sheet.now) from to }
+// Notes a row's place, where there is a row and the map has it.
+// Stays: an index behind a test, since the library's get_mut promises nothing of the element that is written.
+fn note(spots: &mut [u32], row: Option<usize>, place: u32)
+    ensures { spots.new ≡ place_noted spots.old row place }
 {
-    if from < to {
-        let c = sheet::cells_at(half, sheet, h, from);
-        return c.offices;
+    if let Some(i) = row
+        && i < spots.len()
+    {
+        spots[i] = place;
     }
-    0
-}
-
-// So many rows are passed.
-fn at(i: usize, j: usize) -> Passed
-    ensures { result ≡ record { i = i; j = j } }
-{
-    Passed { i: i, j: j }
-}
-
-// The rows passed after the next key: that of the lower of the two next rows, or of both where they are the same.
-fn pass_key(
-    half: Half,
-    first: &[u32],
-    h: Header,
-    i: usize,
-    second: &[u32],
-    g: Header,
-    j: usize,
-) -> Passed
-    requires { WellFormed first.now (edge_table first.now) h × WellFormed second.now (edge_table second.now) g × Left half h g i j }
-    ensures { Moves (count_in half h) (row_at half first.now) (count_in half g) (row_at half second.now) i j result.i result.j }
-{
-    if sheet::count_in(half, h) <= i {
-        return at(i, j + 1);
-    }
-    if sheet::count_in(half, g) <= j {
-        return at(i + 1, j);
-    }
-    if below_at(half, first, h, i, second, g, j) {
-        return at(i + 1, j);
-    }
-    if below_at(half, second, g, j, first, h, i) {
-        return at(i, j + 1);
-    }
-    at(i + 1, j + 1)
-}
-
-// The rows passed after the next key, and the marks that the rule makes there.
-fn go_on(
-    half: Half,
-    rule: Rule,
-    first: &[u32],
-    h: Header,
-    i: usize,
-    second: &[u32],
-    g: Header,
-    j: usize,
-) -> Next
-    requires { Inputs first.now h second.now g rule × Left half h g i j }
-    ensures { MarkedStep rule half first.now h second.now g i j result }
-{
-    let to = pass_key(half, first, h, i, second, g, j);
-    let next_i = to.i;
-    let next_j = to.j;
-    let x = marks_given(half, first, h, i, next_i);
-    let y = marks_given(half, second, g, j, next_j);
-    let m = made(rule, x, y);
-    Next {
-        i: next_i,
-        j: next_j,
-        marks: m,
-    }
-}
-
-// 1 for a row with marks, 0 for none.
-fn one_if(marks: u32) -> usize
-    ensures { (result ≡ number_of (ltb 0 marks)) × (result ≤ 1) }
-{
-    if 0 < marks {
-        return 1;
-    }
-    0
-}
-
-// Notes a row's place, where the walk took the row and the map has it.
-fn note(map: &mut [u32], from: usize, to: usize, place: u32)
-    ensures { map.new ≡ noted map.old from to place }
-{
-    if from < map.len() {
-        if from < to {
-            map[from] = place;
-        }
-    }
-}
-
-// How many rows the combination of a half has, and the places of both sheets' rows in it, as far as the maps go.
-fn survey(
-    half: Half,
-    rule: Rule,
-    first: &[u32],
-    h: Header,
-    second: &[u32],
-    g: Header,
-    firstplaces: &mut [u32],
-    secondplaces: &mut [u32],
-) -> usize
-    requires { Inputs first.now h second.now g rule }
-    ensures { Surveyed rule half first.now h second.now g firstplaces.new secondplaces.new result }
-{
-    let all = sheet::count_in(half, h) + sheet::count_in(half, g);
-    let mut i: usize = 0;
-    let mut j: usize = 0;
-    let mut k: usize = 0;
-    while i + j < all {
-        let s = go_on(half, rule, first, h, i, second, g, j);
-        let next_i = s.i;
-        let next_j = s.j;
-        note(firstplaces, i, next_i, k as u32);
-        note(secondplaces, j, next_j, k as u32);
-        k += one_if(s.marks);
-        i = next_i;
-        j = next_j;
-    }
-    k
 }
 
 // A number's entry in a map, or the number itself where the map has none.
-fn entry_of(map: &[u32], x: u32) -> u32
-    ensures { result ≡ through map.now x }
+fn entry_of(spots: &[u32], x: u32) -> u32
+    ensures { result ≡ through spots.now x }
 {
-    let i = x as usize;
-    if i < map.len() {
-        return map[i];
+    match spots.get(x as usize) {
+        Some(place) => *place,
+        None => x,
     }
-    x
 }
 
 // A row under other marks, its second and third word by a map.
-fn under(map: &[u32], c: Cells, marks: u32) -> Cells
-    ensures { result ≡ spelled map.now c marks }
+fn under(spots: &[u32], c: Cells, marks: u32) -> Cells
+    ensures { result ≡ spelled spots.now c marks }
 {
-    let second = entry_of(map, c.second);
-    let third = entry_of(map, c.third);
     Cells {
-        first: c.first,
-        second: second,
-        third: third,
+        second: entry_of(spots, c.second),
+        third: entry_of(spots, c.third),
         offices: marks,
+        ..c
     }
 }
 
-// The row that a step takes: the first sheet's where it takes one.
-fn taken(
-    half: Half,
-    first: &[u32],
-    h: Header,
-    firstplaces: &[u32],
-    second: &[u32],
-    g: Header,
-    secondplaces: &[u32],
-    from: Passed,
-    to: Next,
-) -> Cells
-    requires { WellFormed first.now (edge_table first.now) h × WellFormed second.now (edge_table second.now) g × (from.i < to.i → from.i < count_in half h) × (to.i ≤ from.i → from.j < count_in half g) }
-    ensures { result ≡ taken_cells half first.now firstplaces.now second.now secondplaces.now from.i to.i from.j to.marks }
-{
-    if from.i < to.i {
-        let c = sheet::cells_at(half, first, h, from.i);
-        return under(firstplaces, c, to.marks);
+impl<'a> Halves<'a> {
+    // The next key after i rows of the first sheet and j of the second: the lower of the two next rows, or both where they are the same.
+    fn step(&self, i: usize, j: usize) -> Option<Meeting>
+        requires { (i ≤ first_count self.now) × (j ≤ second_count self.now) }
+        ensures { StepFrom self.now i j result }
+    {
+        if self.first.count(self.half) <= i {
+            if self.second.count(self.half) <= j {
+                return None;
+            }
+            return Some(Meeting::Second(j));
+        }
+        if self.second.count(self.half) <= j {
+            return Some(Meeting::First(i));
+        }
+        if is_below(self.half, self.first, i, self.second, j) {
+            return Some(Meeting::First(i));
+        }
+        if is_below(self.half, self.second, j, self.first, i) {
+            return Some(Meeting::Second(j));
+        }
+        Some(Meeting::Both(i, j))
     }
-    let d = sheet::cells_at(half, second, g, from.j);
-    under(secondplaces, d, to.marks)
+
+    // The keys of both sheets, lowest first.
+    fn merge(&self) -> Merge<'_>
+        ensures { (result.halves.now ≡ self.now) × (result.i ≡ 0) × (result.j ≡ 0) }
+    {
+        Merge {
+            halves: self,
+            i: 0,
+            j: 0,
+        }
+    }
+
+    // The marks that the rule makes at a step's key.
+    fn marks(&self, step: Meeting) -> u32
+        requires { AreRows self.now step }
+        ensures { result ≡ marks_made self.now step }
+    {
+        let half = self.half;
+        match step {
+            Meeting::First(i) => self.rule.made(self.first.cells(half, i).offices, 0),
+            Meeting::Second(j) => self.rule.made(0, self.second.cells(half, j).offices),
+            Meeting::Both(i, j) => self.rule.made(
+                self.first.cells(half, i).offices,
+                self.second.cells(half, j).offices,
+            ),
+        }
+    }
+
+    // The row of the combination at a step's key: by the first sheet's words where that has one, and under the marks that the rule makes.
+    fn row(&self, step: Meeting, firstplaces: &[u32], secondplaces: &[u32]) -> Cells
+        requires { AreRows self.now step }
+        ensures { result ≡ row_made self.now firstplaces.now secondplaces.now step }
+    {
+        let marks = self.marks(step);
+        match step {
+            Meeting::First(i) | Meeting::Both(i, _) => {
+                under(firstplaces, self.first.cells(self.half, i), marks)
+            }
+            Meeting::Second(j) => under(secondplaces, self.second.cells(self.half, j), marks),
+        }
+    }
+
+    // How many rows the combination of a half has, and the places of both sheets' rows in it, as far as the maps go.
+    fn survey(&self, firstplaces: &mut [u32], secondplaces: &mut [u32]) -> usize
+        ensures { SurveyedIn self.now firstplaces.new secondplaces.new result }
+    {
+        let mut kept: usize = 0;
+        for step in self.merge() {
+            note(firstplaces, step.first(), kept as u32);
+            note(secondplaces, step.second(), kept as u32);
+            kept += usize::from(0 < self.marks(step));
+        }
+        kept
+    }
+
+    // Writes the combination of a half to the front of a lent output, which has room for it; ends by the maps.
+    fn write(&self, firstplaces: &[u32], secondplaces: &[u32], out: &mut [u32])
+        requires { row_place self.now.half self.now.first.now.header.form (rows_kept_in self.now) ≤ length out.old }
+        ensures { WrittenIn self.now firstplaces.now secondplaces.now out.old out.new }
+    {
+        let mut k: usize = 0;
+        for step in self.merge() {
+            let row = self.row(step, firstplaces, secondplaces);
+            if 0 < row.offices {
+                sheet::put_cells(self.half, out, self.first.header.form, k, row);
+                k += 1;
+            }
+        }
+    }
 }
 
-// Stores a row as row k, where it has marks.
-fn store(half: Half, out: &mut [u32], form: u32, k: usize, c: Cells)
-    requires { 0 < c.offices → row_place half form k + row_words half form ≤ length out.old }
-    ensures { out.new ≡ stored_at half form out.old k c }
-{
-    if 0 < c.offices {
-        sheet::put_cells(half, out, form, k, c);
+impl Iterator for Merge<'_> {
+    type Item = Meeting;
+
+    ghost next_gives = { λ s step t. (t.halves ≡ s.halves) × StepFrom s.halves.now s.i s.j step × Comes s.i s.j step t.i t.j };
+
+    ghost remaining = { λ s. at_most (first_count s.halves.now + second_count s.halves.now - (s.i + s.j)) };
+
+    fn next(&mut self) -> Option<Meeting> {
+        let step = self.halves.step(self.i, self.j)?;
+        match step {
+            Meeting::First(i) => self.i = i + 1,
+            Meeting::Second(j) => self.j = j + 1,
+            Meeting::Both(i, j) => {
+                self.i = i + 1;
+                self.j = j + 1;
+            }
+        }
+        Some(step)
     }
 }
 
-// Writes the combination of a half to the front of a lent output, which has room for it; ends by the maps.
-fn write(
-    half: Half,
-    rule: Rule,
-    first: &[u32],
-    h: Header,
-    firstplaces: &[u32],
-    second: &[u32],
-    g: Header,
-    secondplaces: &[u32],
-    out: &mut [u32],
-)
-    requires { Inputs first.now h second.now g rule × (row_place half h.form (kept_rows rule half first.now h second.now g) ≤ length out.old) }
-    ensures { Written rule half first.now h second.now g firstplaces.now secondplaces.now (kept_rows rule half first.now h second.now g) out.old out.new }
-{
-    let all = sheet::count_in(half, h) + sheet::count_in(half, g);
-    let mut i: usize = 0;
-    let mut j: usize = 0;
-    let mut k: usize = 0;
-    while i + j < all {
-        let s = go_on(half, rule, first, h, i, second, g, j);
-        let next_i = s.i;
-        let next_j = s.j;
-        let c = taken(
+impl<'a> Combination<'a> {
+    // One half of it.
+    fn half(&self, half: Half) -> Halves<'a>
+        ensures { IsHalf self.now half result }
+    {
+        Halves {
+            first: self.first,
+            second: self.second,
             half,
-            first,
-            h,
-            firstplaces,
-            second,
-            g,
-            secondplaces,
-            at(i, j),
-            s,
-        );
-        store(half, out, h.form, k, c);
-        k += one_if(s.marks);
-        i = next_i;
-        j = next_j;
+            rule: match half {
+                Half::Nodes => self.plan.nodes,
+                Half::Edges => self.plan.edges,
+            },
+        }
     }
-}
 
-// How many rows the combination of two sheets has, and in lent words the places of their node rows in it, as a search finds them.
-// Nothing is written yet, so that what is too much is known before.
-pub fn measure_of(
-    plan: Plan,
-    first: &[u32],
-    h: Header,
-    second: &[u32],
-    g: Header,
-    firstplaces: &mut [u32],
-    secondplaces: &mut [u32],
-) -> Measure
-    requires { Pair plan.nodes plan.edges plan.offices first.now h second.now g × (length firstplaces.old ≡ max_nodes) × (length secondplaces.old ≡ max_nodes) }
-    ensures { Measured plan.nodes plan.edges first.now h second.now g firstplaces.new secondplaces.new result }
-{
-    let nodes = plan.nodes;
-    let edges = plan.edges;
-    let n = survey(
-        Half::Nodes,
-        nodes,
-        first,
-        h,
-        second,
-        g,
-        firstplaces,
-        secondplaces,
-    );
-    // nobody asks where an edge row stands
-    let mut no_first = [0u32; 1];
-    let mut no_second = [0u32; 1];
-    let e = survey(
-        Half::Edges,
-        edges,
-        first,
-        h,
-        second,
-        g,
-        &mut no_first,
-        &mut no_second,
-    );
-    Measure { nodes: n, edges: e }
-}
+    // How many rows the combination has, and in lent words the places of both sheets' node rows in it, as a search finds them.
+    // Nothing is written yet, so that what is too much is known before.
+    pub fn measure(&self, places: &mut Places) -> Measure
+        ensures { MeasuredAs self.now places.new result }
+    {
+        let nodes = self
+            .half(Half::Nodes)
+            .survey(&mut places.first, &mut places.second);
+        // nobody asks where an edge row stands
+        let edges = self.half(Half::Edges).survey(&mut [], &mut []);
+        Measure { nodes, edges }
+    }
 
-// Writes the combination of two sheets to the front of a lent output, which has room for it: the header, then the node rows; the
-// output from its edge offset onward is lent to the writer of the edge rows.
-pub fn lay(
-    plan: Plan,
-    first: &[u32],
-    h: Header,
-    second: &[u32],
-    g: Header,
-    firstplaces: &[u32],
-    secondplaces: &[u32],
-    m: Measure,
-    out: &mut [u32],
-)
-    requires { Pair plan.nodes plan.edges plan.offices first.now h second.now g × Measured plan.nodes plan.edges first.now h second.now g firstplaces.now secondplaces.now m × (m.nodes ≤ max_nodes) × (m.edges ≤ max_edges h.form) × (sheet_words h.form m.nodes m.edges ≤ length out.old) }
-    ensures { Laid plan.nodes plan.edges plan.offices first.now h second.now g m out.old out.new }
-{
-    let nodes = plan.nodes;
-    let edges = plan.edges;
-    let n = m.nodes;
-    let e = m.edges;
-    sheet::put_header(out, h.form, plan.offices, n as u32, e as u32);
-    let none = &first[0..0];
-    write(
-        Half::Nodes,
-        nodes,
-        first,
-        h,
-        none,
-        second,
-        g,
-        none,
-        &mut out[sheet::HEADER_WORDS..],
-    );
-    let from = sheet::HEADER_WORDS + sheet::NODE_WORDS * n;
-    write(
-        Half::Edges,
-        edges,
-        first,
-        h,
-        firstplaces,
-        second,
-        g,
-        secondplaces,
-        &mut out[from..],
-    );
+    // Writes the combination to the front of a lent output, which has room for it: the header, then the node rows; the output from
+    // its edge offset onward is lent to the writer of the edge rows.
+    pub fn lay(&self, places: &Places, m: Measure, out: &mut [u32])
+        requires { MeasuredAs self.now places.now m × (m.nodes ≤ max_nodes) × (m.edges ≤ max_edges self.now.first.now.header.form) × (sheet_words self.now.first.now.header.form m.nodes m.edges ≤ length out.old) }
+        ensures { LaidAs self.now m out.old out.new }
+    {
+        let form = self.first.header.form;
+        sheet::put_header(out, form, self.plan.offices, m.nodes as u32, m.edges as u32);
+        self.half(Half::Nodes)
+            .write(&[], &[], &mut out[sheet::HEADER_WORDS..]);
+        let from = sheet::HEADER_WORDS + sheet::NODE_WORDS * m.nodes;
+        self.half(Half::Edges)
+            .write(&places.first, &places.second, &mut out[from..]);
+    }
+
+    // Puts the combination, whose rows are within a sheet's limits, to the front of a lent output: how many words it has.
+    pub fn put(&self, out: &mut [u32]) -> Result<u32, Fault>
+        requires { (kept_of self.now Nodes ≤ max_nodes) × (kept_of self.now Edges ≤ max_edges self.now.first.now.header.form) }
+        ensures { PutsAs self.now out.old result out.new }
+    {
+        let mut places = Places {
+            first: [0; ROWS],
+            second: [0; ROWS],
+        };
+        let m = self.measure(&mut places);
+        let words = sheet::sheet_words(self.first.header.form, m.nodes, m.edges);
+        if out.len() < words {
+            return Err(Fault::OutputShort);
+        }
+        self.lay(&places, m, out);
+        Ok(words as u32)
+    }
 }

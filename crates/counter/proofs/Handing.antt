@@ -1,6 +1,6 @@
 -- A witness in words, as the inner question gives it, and in bytes, as the counter hands it over.
 -- Assumes nothing.
-use Prim.Native.Nat.{ℕ, ◌-◌, ◌*◌, ◌<◌, ◌≤◌}
+use Prim.Native.Nat.{ℕ, ◌*◌, ◌<◌, ◌≤◌}
 use native.Mathlib.Omega.{arith}
 use native.Mathlib.Decide.{dec_lt}
 use mathlib.Core.Path.{◌≡◌, refl, sym, ap, subst, ◌∙◌}
@@ -49,8 +49,8 @@ still-refused refusal R room a room' (Shows.written ws y w l) fits z out = absur
 pub record WordsInFront (refusal : Refusal) (R : List ℕ → Type 0) (room : List ℕ) (a : Answer) (room' : List ℕ) : Type 0 where
   pub stands : refusal.number ≡ 0
   pub fits : a.count ≤ length room
-  pub long : length (take (a.count - 0) room') ≡ a.count
-  pub is : R (take (a.count - 0) room')
+  pub long : length (take a.count room') ≡ a.count
+  pub is : R (take a.count room')
 
 pub words-in-front : (refusal : Refusal) (R : List ℕ → Type 0) (room : List ℕ) (a : Answer) (room' : List ℕ) → Shows refusal R room a room' → a.number ≡ 0 → WordsInFront refusal R room a room'
 unfolding refuse
@@ -58,13 +58,13 @@ words-in-front refusal R room a room' (Shows.refused h) z = absurd (h z)
 words-in-front refusal R room a room' (Shows.missing y n) z = absurd (omega (arith, z))
 words-in-front refusal R room a room' (Shows.short ws y w l) z = absurd (omega (arith, z))
 words-in-front refusal R room a room' (Shows.written ws y w l) z =
-    let e : take (length ws - 0) (ws ++ drop (length ws) room) ≡ ws = take_at ws (drop (length ws) room) (length ws - 0) (omega arith) in
+    let e : take (length ws) (ws ++ drop (length ws) room) ≡ ws = take_at ws (drop (length ws) room) (length ws) (omega arith) in
     record { stands = y; fits = l; long = ap length e; is = subst R (sym e) w }
 
 module _ (refusal : Refusal) (R : List ℕ → Type 0) (room : List ℕ) (a : Answer) (room' : List ℕ) (x : WordsInFront refusal R room a room') (out : List ℕ) (r : Refusal) (out' : List ℕ)
-    (w : Writes none (bytes_of (take (a.count - 0) room')) out r out') (b : Answer) where
+    (w : Writes none (bytes_of (take a.count room')) out r out') (b : Answer) where
   abbrev ws : List ℕ
-  ws = take (a.count - 0) room'
+  ws = take a.count room'
 
   same : (y : Answer) (o : List ℕ) → b ≡ y → out' ≡ o → Shows refusal (InBytes R) out y o → Shows refusal (InBytes R) out b out'
   same y o e q s = subst (λ (v : List ℕ). Shows refusal (InBytes R) out b v) (sym q) (subst (λ (u : Answer). Shows refusal (InBytes R) out u o) (sym e) s)

@@ -1,23 +1,22 @@
 -- What comes of a file that was read: with 33 it is refused by that, and else it is refused, and answered, as its words are.
 -- Assumes nothing.
-use Prim.Native.Nat.{ℕ, zero, suc, ◌-◌, ◌/◌}
+use Prim.Native.Nat.{ℕ, zero, suc, ◌/◌}
 use native.Mathlib.Omega.{arith}
 use mathlib.Core.Path.{◌≡◌, refl, sym, ap, subst, ◌∙◌}
 use mathlib.Core.List.{List}
 use lib.ListN.{length, take}
-use lib.Seq.{take_at}
 use Rattle.sheet.specs.declared.Refusal.{Refusal}
 use Rattle.sheet.specs.Limits.{max_words}
 use Rattle.sheet.specs.Refusals.{none, refuse, ◌then◌, written, Writes}
 use Rattle.sheet.specs.Verdict.{verdict}
-use Rattle.sheet.proofs.Refusing.{refuse-some-is, refuse-none, refuse-none-is, refuse-good, then-some-is}
+use Rattle.sheet.proofs.Refusing.{refuse-some-is, refuse-none, refuse-none-is, then-some-is}
 use Rattle.sheet.proofs.Writing.{writes-room}
 use Rattle.files.specs.Bytes.{words_of, bytes_fault, bytes_verdict}
-use Rattle.files.proofs.Words.{words_long, bytes_good}
+use Rattle.files.proofs.Words.{words_long, bytes_good, decoded}
 use Rattle.question.specs.declared.Answer.{Answer}
 use Rattle.question.specs.Asked.{plain, after_sheet}
 use Rattle.question.specs.Replies.{refused_by, Replies, Shows}
-use Rattle.counter.specs.Filed.{WasRead, after_file}
+use Rattle.counter.specs.Filed.{after_file}
 
 -- ---- reading
 
@@ -35,68 +34,40 @@ module _ (file : List ℕ) (k : ℕ) (is : k ≡ bytes_fault (length file)) wher
   pub words-lent : (out out' : List ℕ) (r : Refusal) → k ≡ 0 → Writes none (words_of file) out r out' → Writes (refuse (bytes_fault (length file)) 1 0 none) (words_of file) out r out'
   words-lent out out' r z w = subst (λ (v : Refusal). Writes v (words_of file) out r out') (refuse-none-is k (bytes_fault (length file)) 1 0 none none is z refl) w
 
--- lent words that have room for any sheet: the file is refused by 33, or its words stand in them
-pub was_read : (file words₀ words : List ℕ) (r : Refusal) → length words₀ ≡ max_words → length words ≡ length words₀ → Writes (refuse (bytes_fault (length file)) 1 0 none) (words_of file) words₀ r words → WasRead file r words
-was_read file words₀ words r long kept w = go (bytes_fault (length file)) refl
-  where
-    go : (k : ℕ) → k ≡ bytes_fault (length file) → WasRead file r words
-    go zero is =
-        let e = refuse-none (bytes_fault (length file)) 1 0 none (sym is) in
-        let most = bytes_good (length file) (sym is) in
-        let n = words_long file in
-        let all = writes-room (words_of file) words₀ r words (subst (λ (v : Refusal). Writes v (words_of file) words₀ r words) e w) (omega arith) in
-        record {
-          refusal = all.0 ∙ sym e;
-          room = λ y. omega arith;
-          stand = λ y. ap (take (length file / 4)) all.1 ∙ take_at (words_of file) _ (length file / 4) n;
-        }
-    go (suc k) is =
-        let v = refuse-some-is (suc k) (bytes_fault (length file)) 1 0 none is (λ z. absurd (omega (arith, z))) in
-        let e = w.told ∙ sym (then-some-is (record { number = suc k; sheet = 1; row = 0 }) _ _ v (λ z. absurd (omega (arith, z)))) in
-        let some : r.number ≡ 0 → ⊥ = λ z. absurd (omega (arith, sym z ∙ ap (λ (x : Refusal). x.number) e)) in
-        record { refusal = e ∙ v; room = λ z. absurd (some z); stand = λ z. absurd (some z) }
+-- words that have room for any sheet have room for a file's that is not refused by 33, which then stand in front of them
+pub was_read : (file words : List ℕ) (r : Refusal) (words' : List ℕ) → length words ≡ max_words → bytes_fault (length file) ≡ 0 → Writes none (words_of file) words r words' → take (length file / 4) words' ≡ words_of file
+was_read file words r words' long z w =
+    let most = bytes_good (length file) z in
+    let n = words_long file in
+    decoded words' file _ (writes-room (words_of file) words r words' w (omega arith)).1
 
 -- ---- what is asked of it
 
-some_first : (n k : ℕ) (v : Refusal) → (n ≡ 0 → ⊥) → refuse n 1 0 none ≡ (refuse n 1 0 v then plain k)
+some_first : (n k : ℕ) (v : Refusal) → (n ≡ 0 → ⊥) → record { number = n; sheet = 1; row = 0 } ≡ (refuse n 1 0 v then plain k)
 unfolding refuse ◌then◌
 some_first zero k v h = absurd (h refl)
 some_first (suc n) k v h = refl
 
-module _ (file : List ℕ) (r : Refusal) (words : List ℕ) (x : WasRead file r words) where
-  numbered : bytes_fault (length file) ≡ 0 → r.number ≡ 0
-  numbered z = ap (λ (y : Refusal). y.number) (x.refusal ∙ refuse-none (bytes_fault (length file)) 1 0 none z)
-
-  -- 33 refuses it, whatever is asked
-  first-33 : (k : ℕ) → (r.number ≡ 0 → ⊥) → r ≡ after_file file k
+-- 33 refuses it, whatever is asked
+module _ (file : List ℕ) (n : ℕ) (is : n ≡ bytes_fault (length file)) (h : n ≡ 0 → ⊥) (r : Refusal) (e : r ≡ record { number = n; sheet = 1; row = 0 }) where
+  first-33 : (k : ℕ) → r ≡ after_file file k
   unfolding after_file bytes_verdict
-  first-33 k h = x.refusal ∙ some_first (bytes_fault (length file)) k (verdict 1 (words_of file)) (λ z. h (numbered z))
+  first-33 k = e ∙ rw is (some_first (bytes_fault (length file)) k (verdict 1 (words_of file)) (λ z. h (is ∙ z)))
 
-  -- read, it is refused as its words are
-  as-words : (k : ℕ) → r.number ≡ 0 → after_sheet (words_of file) k ≡ after_file file k
+  first-some : (k : ℕ) → (after_file file k).number ≡ 0 → ⊥
+  first-some k z = h (ap (λ (y : Refusal). y.number) (sym e ∙ first-33 k) ∙ z)
+
+  pub reply-unread : (P : ℕ → ℕ → Type 0) (k : ℕ) (a : Answer) → a ≡ refused_by r → Replies (after_file file k) P a
+  reply-unread P k a q = subst (λ (y : Answer). Replies (after_file file k) P y) (sym (q ∙ ap refused_by (first-33 k))) (Replies.refused (first-some k))
+
+  pub show-unread : (R : List ℕ → Type 0) (k : ℕ) (a : Answer) (out : List ℕ) → a ≡ refused_by r → Shows (after_file file k) R out a out
+  show-unread R k a out q = subst (λ (y : Answer). Shows (after_file file k) R out y out) (sym (q ∙ ap refused_by (first-33 k))) (Shows.refused (first-some k))
+
+-- read, it is refused as its words are: so whatever is told of the words, after the sheet's refusal, is told of the file, after the file's
+module _ (file s : List ℕ) (is : s ≡ words_of file) (z : bytes_fault (length file) ≡ 0) where
+  as-words : (k : ℕ) → after_sheet (words_of file) k ≡ after_file file k
   unfolding after_file after_sheet bytes_verdict
-  as-words k z =
-      let good = (refuse-good (bytes_fault (length file)) 1 0 none (ap (λ (y : Refusal). y.number) (sym x.refusal) ∙ z)).0 in
-      ap (λ (v : Refusal). v then plain k) (sym (refuse-none (bytes_fault (length file)) 1 0 (verdict 1 (words_of file)) good))
+  as-words k = ap (λ (v : Refusal). v then plain k) (sym (refuse-none (bytes_fault (length file)) 1 0 (verdict 1 (words_of file)) z))
 
-  pub reply-unread : (P : ℕ → ℕ → Type 0) (k : ℕ) (a : Answer) → (r.number ≡ 0 → ⊥) → a ≡ refused_by r → Replies (after_file file k) P a
-  reply-unread P k a h e =
-      subst (λ (y : Answer). Replies (after_file file k) P y) (sym (e ∙ ap refused_by (first-33 k h)))
-      (Replies.refused (λ z. h (ap (λ (y : Refusal). y.number) (first-33 k h) ∙ z)))
-
-  pub show-unread : (R : List ℕ → Type 0) (k : ℕ) (a : Answer) (out out' : List ℕ) → (r.number ≡ 0 → ⊥) → a ≡ refused_by r → out' ≡ out → Shows (after_file file k) R out a out'
-  show-unread R k a out out' h e o =
-      subst (λ (w : List ℕ). Shows (after_file file k) R out a w) (sym o)
-      (subst (λ (y : Answer). Shows (after_file file k) R out y out) (sym (e ∙ ap refused_by (first-33 k h)))
-      (Shows.refused (λ z. h (ap (λ (y : Refusal). y.number) (first-33 k h) ∙ z))))
-
-  -- the part that is handed on is the file's words
-  part : r.number ≡ 0 → take (length file / 4 - 0) words ≡ words_of file
-  part z = let e : length file / 4 - 0 ≡ length file / 4 = omega arith in ap (λ (n : ℕ). take n words) e ∙ x.stand z
-
-  -- so whatever is told of the part, after the sheet's refusal, is told of the file, after the file's
-  pub of-file : (F : List ℕ → ℕ) (C : Refusal → List ℕ → Type 0) → r.number ≡ 0 → C (after_sheet (take (length file / 4 - 0) words) (F (take (length file / 4 - 0) words))) (take (length file / 4 - 0) words)
-      → C (after_file file (F (words_of file))) (words_of file)
-  of-file F C z y =
-      subst (λ (v : Refusal). C v (words_of file)) (as-words (F (words_of file)) z)
-      (subst (λ (s : List ℕ). C (after_sheet s (F s)) s) (part z) y)
+  pub of-file : (C : (ℕ → Refusal) → List ℕ → Type 0) → C (after_sheet s) s → C (after_file file) (words_of file)
+  of-file C y = subst (λ (v : ℕ → Refusal). C v (words_of file)) (λ i k. as-words k i) (subst (λ (t : List ℕ). C (after_sheet t) t) is y)

@@ -1,9 +1,9 @@
 -- What the counter asks, and what it answers, of a file's bytes.
 -- Assumes nothing.
-use Rattle.std.specs.Prelude.{ℕ, ◌/◌, ◌≤◌, ◌≡◌, List, length, take}
+use Rattle.std.specs.Prelude.{ℕ, List}
 use Rattle.sheet.specs.declared.Refusal.{Refusal}
-use Rattle.sheet.specs.Refusals.{none, refuse, ◌then◌}
-use Rattle.files.specs.Bytes.{words_of, bytes_of, bytes_fault, bytes_verdict}
+use Rattle.sheet.specs.Refusals.{◌then◌}
+use Rattle.files.specs.Bytes.{bytes_of, bytes_verdict}
 use Rattle.question.specs.declared.Question.{Question}
 use Rattle.question.specs.Asked.{plain}
 
@@ -14,12 +14,6 @@ asking office rule kind person deed folio = record { office = office; rule = rul
 -- a question that names no person, at an office
 abbrev pub seeking : ℕ → ℕ → ℕ → ℕ → ℕ → Question
 seeking office category deed other folio = record { office = office; rule = 0; kind = 0; person = 0; category = category; deed = deed; other = other; folio = folio }
-
--- a file that is read into words: refused by 33, or its words stand in front
-pub record WasRead (file : List ℕ) (r : Refusal) (words : List ℕ) : Type 0 where
-  pub refusal : r ≡ refuse (bytes_fault (length file)) 1 0 none
-  pub room : r.number ≡ 0 → length file / 4 ≤ length words
-  pub stand : r.number ≡ 0 → take (length file / 4) words ≡ words_of file
 
 -- the file's own refusal, 33 and then 1 to 17 of its words, and then the question's
 unfoldable pub after_file : List ℕ → ℕ → Refusal

@@ -1,9 +1,9 @@
 // The counter: what a program in C or Rust calls. Questions 1 to 3 and the check are asked of a file's bytes, and every other function of a sheet's words.
 #![tactic(auto)]
 
-ghost use Rattle.std.specs.Prelude.{◌≡◌, [], ◌∷◌, length};
+ghost use Rattle.std.specs.Prelude.{◌≡◌, [], ◌∷◌, length, IfOk, IfErr};
 ghost use Rattle.tables.specs.Key.{identity};
-ghost use Rattle.sheet.specs.Limits.{max_words};
+ghost use Rattle.sheet.specs.FaultNumbers.{fault_number};
 ghost use Rattle.sheet.specs.Refusals.{none, refuse, Writes};
 ghost use Rattle.sheet.specs.Verdict.{verdict};
 ghost use Rattle.files.specs.Bytes.{words_of, bytes_of, bytes_fault, bytes_verdict};
@@ -22,14 +22,14 @@ ghost use Rattle.add.specs.Adding.{AddsNode, AddsEdge};
 ghost use Rattle.duty.specs.Promises.{DeskSteps, Traces};
 ghost use Rattle.lines.specs.Nine.{said};
 ghost use Rattle.listing.specs.Promises.{ReadsListing, WritesListing};
-ghost use Rattle.counter.specs.Filed.{asking, seeking, WasRead, after_file, InBytes};
+ghost use Rattle.counter.specs.Filed.{asking, seeking, after_file, InBytes};
 
 use duty::TraceReply;
 use join::Joined;
 use lines::Line;
 use listing::Listing;
-use question::{Answer, Question};
-use sheet::{Edge, MAX_WORDS, Node, Refusal};
+use question::{Answer, Question, Told};
+use sheet::{Edge, Fault, MAX_WORDS, Node, Refusal};
 use watch::Watch;
 
 // No witness is longer: a person, a deed and a folio, and categories, each with a row of its own.
@@ -39,23 +39,20 @@ const PATH_WORDS: usize = 2 * (sheet::MAX_NODES as usize + 3);
 pub fn tormukai_words_of_file(file: &[u8], out: &mut [u32]) -> Refusal
     ensures { Writes (refuse (bytes_fault (length file.now)) 1 0 none) (words_of file.now) out.old result out.new }
 {
-    let k = files::bytes_fault(file.len());
-    if k != 0 {
-        return Refusal {
-            number: k,
-            sheet: 1,
-            row: 0,
-        };
+    match files::bytes_fault(file.len()) {
+        Ok(()) => files::decode(file, out),
+        Err(fault) => fault.at(1, 0),
     }
-    files::decode(file, out)
 }
 
-// The same into words that have room for any sheet: refused by 33 alone.
-fn read(file: &[u8], words: &mut [u32]) -> Refusal
-    requires { length words.old ≡ max_words }
-    ensures { WasRead file.now result words.new }
+// The words of a file's bytes, in lent words that have room for any sheet: refused by 33 alone.
+fn read<'a>(file: &[u8], words: &'a mut [u32; MAX_WORDS]) -> Result<&'a [u32], Fault>
+    ensures ok { IfOk result (λ s. (s.now ≡ words_of file.now) × (bytes_fault (length file.now) ≡ 0)) }
+    ensures err { IfErr result (λ f. fault_number f ≡ bytes_fault (length file.now)) }
 {
-    tormukai_words_of_file(file, words)
+    files::bytes_fault(file.len())?;
+    files::decode(file, words);
+    Ok(&words[..file.len() / 4])
 }
 
 // Question 1 of a file's bytes, the answer at an office: 0 Undetermined, 1 Granted, 2 Banned, 3 Both, in `value`.
@@ -63,22 +60,10 @@ pub fn tormukai_answer(file: &[u8], office: u32, person: u32, deed: u32, folio: 
     ensures { AnswersAtOffice (after_file file.now) (words_of file.now) (asking office 0 0 person deed folio) result }
 {
     let mut words = [0u32; MAX_WORDS];
-    let r = read(file, &mut words);
-    if r.number != 0 {
-        return question::refused(r);
+    match read(file, &mut words) {
+        Ok(sheet) => tormukai_sheet_answer(sheet, office, person, deed, folio),
+        Err(fault) => Answer::from(fault.at(1, 0)),
     }
-    let n = file.len() / 4;
-    let q = Question {
-        office: office,
-        rule: 0,
-        kind: 0,
-        person: person,
-        category: 0,
-        deed: deed,
-        other: 0,
-        folio: folio,
-    };
-    ask::answer_at_office(&words[0..n], q)
 }
 
 // Question 2 of a file's bytes, the joint answer under rule 1, 2 or 3: the answer in `value`, the deciding office in `count`.
@@ -86,25 +71,28 @@ pub fn tormukai_joint_answer(file: &[u8], rule: u32, person: u32, deed: u32, fol
     ensures { AnswersJointly (after_file file.now) (words_of file.now) (asking 0 rule 0 person deed folio) result }
 {
     let mut words = [0u32; MAX_WORDS];
-    let r = read(file, &mut words);
-    if r.number != 0 {
-        return question::refused(r);
+    match read(file, &mut words) {
+        Ok(sheet) => tormukai_sheet_joint_answer(sheet, rule, person, deed, folio),
+        Err(fault) => Answer::from(fault.at(1, 0)),
     }
-    let n = file.len() / 4;
-    let q = Question {
-        office: 0,
-        rule: rule,
-        kind: 0,
-        person: person,
-        category: 0,
-        deed: deed,
-        other: 0,
-        folio: folio,
-    };
-    ask::joint_answer(&words[0..n], q)
+}
+
+// What questions 3 and 4 ask: for a grant or a ban of a person's deed on a folio, at an office.
+fn office_question(office: u32, kind: u32, person: u32, deed: u32, folio: u32) -> Question
+    ensures { result ≡ asking office 0 kind person deed folio }
+{
+    Question {
+        office,
+        kind,
+        person,
+        deed,
+        folio,
+        ..Question::default()
+    }
 }
 
 // Question 3 of words, with the path in bytes.
+// Stays: the C interface, by which the question and the writer of bytes tell a refusal by its number in C's structs.
 fn witness_bytes(sheet: &[u32], q: Question, out: &mut [u8]) -> Answer
     ensures { Shows (after_sheet sheet.now (ask_fault sheet.now q)) (InBytes (WitnessOf sheet.now q)) out.old result out.new }
 {
@@ -114,11 +102,14 @@ fn witness_bytes(sheet: &[u32], q: Question, out: &mut [u8]) -> Answer
         return a;
     }
     let n = a.count as usize;
-    let r = files::encode(&path[0..n], out);
+    let r = files::encode(&path[..n], out);
     if r.number != 0 {
-        return question::refused(r);
+        return Answer::from(r);
     }
-    question::told(0, 4 * a.count)
+    Answer::from(Told {
+        value: 0,
+        count: 4 * a.count,
+    })
 }
 
 // Question 3 of a file's bytes, the witness of a grant (kind 0) or a ban (any other), in bytes, low byte first; how many in `count`.
@@ -134,22 +125,14 @@ pub fn tormukai_witness(
     ensures { Shows (after_file file.now (ask_fault (words_of file.now) (asking office 0 kind person deed folio))) (InBytes (WitnessOf (words_of file.now) (asking office 0 kind person deed folio))) out.old result out.new }
 {
     let mut words = [0u32; MAX_WORDS];
-    let r = read(file, &mut words);
-    if r.number != 0 {
-        return question::refused(r);
+    match read(file, &mut words) {
+        Ok(sheet) => witness_bytes(
+            sheet,
+            office_question(office, kind, person, deed, folio),
+            out,
+        ),
+        Err(fault) => Answer::from(fault.at(1, 0)),
     }
-    let n = file.len() / 4;
-    let q = Question {
-        office: office,
-        rule: 0,
-        kind: kind,
-        person: person,
-        category: 0,
-        deed: deed,
-        other: 0,
-        folio: folio,
-    };
-    witness_bytes(&words[0..n], q, out)
 }
 
 // The bytes of words, as they stand in a file, at the front of the bytes lent: 25 where they don't fit.
@@ -184,14 +167,11 @@ pub fn tormukai_sheet_answer(
     ensures { AnswersAtOffice (after_sheet sheet.now) sheet.now (asking office 0 0 person deed folio) result }
 {
     let q = Question {
-        office: office,
-        rule: 0,
-        kind: 0,
-        person: person,
-        category: 0,
-        deed: deed,
-        other: 0,
-        folio: folio,
+        office,
+        person,
+        deed,
+        folio,
+        ..Question::default()
     };
     ask::answer_at_office(sheet, q)
 }
@@ -207,14 +187,11 @@ pub fn tormukai_sheet_joint_answer(
     ensures { AnswersJointly (after_sheet sheet.now) sheet.now (asking 0 rule 0 person deed folio) result }
 {
     let q = Question {
-        office: 0,
-        rule: rule,
-        kind: 0,
-        person: person,
-        category: 0,
-        deed: deed,
-        other: 0,
-        folio: folio,
+        rule,
+        person,
+        deed,
+        folio,
+        ..Question::default()
     };
     ask::joint_answer(sheet, q)
 }
@@ -231,16 +208,7 @@ pub fn tormukai_sheet_witness(
 ) -> Answer
     ensures { Witnesses sheet.now (asking office 0 kind person deed folio) out.old result out.new }
 {
-    let q = Question {
-        office: office,
-        rule: 0,
-        kind: kind,
-        person: person,
-        category: 0,
-        deed: deed,
-        other: 0,
-        folio: folio,
-    };
+    let q = office_question(office, kind, person, deed, folio);
     ask::witness(sheet, q, out)
 }
 
@@ -256,16 +224,7 @@ pub fn tormukai_is_path(
 ) -> Answer
     ensures { TellsPath sheet.now (asking office 0 kind person deed folio) list.now result }
 {
-    let q = Question {
-        office: office,
-        rule: 0,
-        kind: kind,
-        person: person,
-        category: 0,
-        deed: deed,
-        other: 0,
-        folio: folio,
-    };
+    let q = office_question(office, kind, person, deed, folio);
     claim::is_path(sheet, q, list)
 }
 
@@ -279,14 +238,9 @@ pub fn tormukai_persons_in_category(
     ensures { ListsPersonsInCategory sheet.now (seeking office category 0 0 0) out.old result out.new }
 {
     let q = Question {
-        office: office,
-        rule: 0,
-        kind: 0,
-        person: 0,
-        category: category,
-        deed: 0,
-        other: 0,
-        folio: 0,
+        office,
+        category,
+        ..Question::default()
     };
     lists::persons_in_category(sheet, q, out)
 }
@@ -302,14 +256,10 @@ pub fn tormukai_persons_with_grant(
     ensures { ListsPersonsWithGrant sheet.now (seeking office 0 deed 0 folio) out.old result out.new }
 {
     let q = Question {
-        office: office,
-        rule: 0,
-        kind: 0,
-        person: 0,
-        category: 0,
-        deed: deed,
-        other: 0,
-        folio: folio,
+        office,
+        deed,
+        folio,
+        ..Question::default()
     };
     lists::persons_with_grant(sheet, q, out)
 }
@@ -319,14 +269,8 @@ pub fn tormukai_folios_out_of_reach(sheet: &[u32], office: u32, out: &mut [u32])
     ensures { ListsFoliosOutOfReach sheet.now (seeking office 0 0 0 0) out.old result out.new }
 {
     let q = Question {
-        office: office,
-        rule: 0,
-        kind: 0,
-        person: 0,
-        category: 0,
-        deed: 0,
-        other: 0,
-        folio: 0,
+        office,
+        ..Question::default()
     };
     lists::folios_out_of_reach(sheet, q, out)
 }
@@ -336,14 +280,8 @@ pub fn tormukai_least_triple(sheet: &[u32], office: u32, out: &mut [u32]) -> Ans
     ensures { ShowsLeastTriple sheet.now (seeking office 0 0 0 0) out.old result out.new }
 {
     let q = Question {
-        office: office,
-        rule: 0,
-        kind: 0,
-        person: 0,
-        category: 0,
-        deed: 0,
-        other: 0,
-        folio: 0,
+        office,
+        ..Question::default()
     };
     lists::least_triple(sheet, q, out)
 }
@@ -359,14 +297,10 @@ pub fn tormukai_least_holder(
     ensures { ShowsLeastHolder sheet.now (seeking office 0 deed other 0) out.old result out.new }
 {
     let q = Question {
-        office: office,
-        rule: 0,
-        kind: 0,
-        person: 0,
-        category: 0,
-        deed: deed,
-        other: other,
-        folio: 0,
+        office,
+        deed,
+        other,
+        ..Question::default()
     };
     lists::least_holder(sheet, q, out)
 }
@@ -376,14 +310,8 @@ pub fn tormukai_redundant_edges(sheet: &[u32], office: u32, out: &mut [u32]) -> 
     ensures { ListsRedundantEdges sheet.now (seeking office 0 0 0 0) out.old result out.new }
 {
     let q = Question {
-        office: office,
-        rule: 0,
-        kind: 0,
-        person: 0,
-        category: 0,
-        deed: 0,
-        other: 0,
-        folio: 0,
+        office,
+        ..Question::default()
     };
     lists::redundant_edges(sheet, q, out)
 }
@@ -461,10 +389,10 @@ pub fn tormukai_add_node(
     ensures { AddsNode sheet.now (record { class = class; number = number; variant = variant; offices = offices }) out.old result out.new }
 {
     let row = Node {
-        class: class,
-        number: number,
-        variant: variant,
-        offices: offices,
+        class,
+        number,
+        variant,
+        offices,
     };
     add::add_node(sheet, row, out)
 }
@@ -481,10 +409,10 @@ pub fn tormukai_add_edge(
     ensures { AddsEdge sheet.now (record { kind = kind; from = from; to = to; offices = offices }) out.old result out.new }
 {
     let row = Edge {
-        kind: kind,
-        from: from,
-        to: to,
-        offices: offices,
+        kind,
+        from,
+        to,
+        offices,
     };
     add::add_edge(sheet, row, out)
 }
@@ -514,9 +442,7 @@ pub fn tormukai_write_listing(sheet: &[u32], out: &mut [u8]) -> Listing
 pub fn tormukai_step(watch: &mut Watch, sheet: &[u32], timeout: u32, row: &[u32]) -> Answer
     ensures { DeskSteps sheet.now timeout row.now watch.old result watch.new }
 {
-    let s = duty::step_by_value(*watch, sheet, timeout, row);
-    *watch = s.watch;
-    s.answer
+    duty::step(watch, sheet, timeout, row)
 }
 
 // A whole trace of the duty desk, with its own empty table: one answer for each question; how many in `count`.

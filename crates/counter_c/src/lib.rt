@@ -1,4 +1,5 @@
 // The counter as C calls it: for each function that a caller in C uses, its symbol. Each calls the counter's function of its name and says of it what that one says.
+// Stays: the C interface. A symbol is a function with clauses of its own, and no macro can write a clause.
 #![tactic(auto)]
 
 ghost use Rattle.std.specs.Prelude.{◌≡◌, [], ◌∷◌, length};

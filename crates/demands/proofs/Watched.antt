@@ -20,8 +20,8 @@ use Rattle.question.specs.declared.Answer.{Answer}
 use Rattle.question.specs.Asked.{plain}
 use Rattle.question.specs.Replies.{Replies, refused, answered}
 use Rattle.watch.specs.declared.TraceRow.{TraceRow}
-use Rattle.watch.specs.declared.Routed.{Routed}
-use Rattle.watch.specs.declared.Moved.{Moved}
+use Rattle.watch.specs.History.{Routed}
+use Rattle.watch.specs.WatchTable.{Moved}
 use Rattle.watch.specs.declared.Watch.{Watch}
 use Rattle.watch.specs.History.{is_open, held_folios, last_from, bad_row, refusal, offices_for, routed, grown}
 use Rattle.watch.specs.WatchTable.{doubled, refused_row, empty_watch, TableStands}

@@ -4,18 +4,22 @@ use Prim.Native.Nat.{ℕ, zero, suc, ◌+◌, ◌-◌, ◌<◌, ◌≤◌}
 use mathlib.Core.Path.{◌≡◌, refl, sym, ap, ap₂, subst, ◌∙◌}
 use mathlib.Core.List.{List, [], ◌∷◌, ◌++◌}
 use native.Mathlib.Omega.{arith}
-use lib.ListN.{length, set}
-use lib.Seq.{sets, length-sets}
+use native.Mathlib.Decide.{dec_lt}
+use lib.ListN.{length, set, drop, get_or, length-drop, length-append, get_or-append}
+use lib.Seq.{sets, length-sets, drop-append_seam, drop-drop, get_or-drop}
+use Rattle.std.specs.Prelude.{Result, Ok, Err}
+use Rattle.std.specs.Result.{result_unwrap_or}
+use Rattle.sheet.specs.declared.fault.Fault.{Fault}
 use Rattle.tables.specs.Office.{View}
 use Rattle.meaning.specs.Answers.{AnswerIs}
 use Rattle.meaning.proofs.Unique.{answer-one}
 use Rattle.watch.specs.declared.TraceRow.{TraceRow}
-use Rattle.watch.specs.declared.Routed.{Routed}
-use Rattle.watch.specs.declared.Moved.{Moved}
+use Rattle.watch.specs.History.{Routed}
+use Rattle.watch.specs.WatchTable.{Moved}
 use Rattle.watch.specs.declared.Watch.{Watch}
-use Rattle.watch.specs.WatchTable.{advanced, empty_watch}
+use Rattle.watch.specs.WatchTable.{advanced, empty_watch, moved, told_row}
 use Rattle.watch.specs.Trace.{row_of_words, TraceQuestion, question_in, asks, run_from}
-use Rattle.watch.proofs.Tracing.{Running, running-start, running-all, running-next, running-goes, running-fits, asks_none, asks-one}
+use Rattle.watch.proofs.Tracing.{Running, running-start, running-all, running-next, running-room, running-goes, running-fits, asks_none, asks-one}
 use Rattle.duty.specs.Desk.{in_turn, DeskAnswer, nobody, determined, passed_on, RowAnswer, TraceAnswers, no_more, one_more}
 use Rattle.duty.specs.Answering.{PutsAnswers}
 
@@ -81,6 +85,14 @@ module _ (at : ℕ → View) (timeout : ℕ) (rows before : List ℕ) where
     pub putting-end : length rows ≤ i → PutsAnswers at (run_from timeout [] rows).questions before 0 out
     putting-end l = record { answers = g.answers; are = rw (← (running-all timeout rows w i count g.run l)) g.are; holds = g.holds }
 
+    -- fewer words are left than a row has: of a trace that is not refused, none
+    pub putting-done : (run_from timeout [] rows).number ≡ 0 → length rows < i + 5 → PutsAnswers at (run_from timeout [] rows).questions before 0 out
+    putting-done z l = putting-end (go (dec_lt i (length rows)))
+      where
+        go : Dec (i < length rows) → length rows ≤ i
+        go (yes b) = absurd (omega (arith, l, running-room timeout rows w i count g.run z b))
+        go (no b) = omega arith
+
     module _ (m : Moved) (l : i + 5 ≤ length rows) (e : m ≡ advanced w timeout (row_of_words rows i)) (z : (run_from timeout [] rows).number ≡ 0) where
       pub putting-fits : length (run_from timeout [] rows).questions ≤ length before → count + asks m.routed ≤ length out
       putting-fits f = omega (arith, running-fits timeout rows w i count g.run m l e z, ap length g.holds ∙ length-sets before 0 g.answers)
@@ -110,3 +122,40 @@ module _ (at : ℕ → View) (r : TraceRow) (t : Routed) (out : List ℕ) (i : �
 
   pub asks-room : (t.offices ≡ 0 → ⊥) → i + asks t ≤ length out → i < length out
   asks-room e h = omega (arith, h, (asks-one r t e).1)
+
+-- ---- a row, as `watch::advance` tells it
+
+module _ (w : Watch) (r : Result ℕ Fault) (n : ℕ) (e : n ≡ result_unwrap_or r 0) where
+  pub told-offices : (r' : Result ℕ Fault) → (moved w r').routed.offices ≡ result_unwrap_or r' 0
+  told-offices (Ok k) = refl
+  told-offices (Err f) = refl
+
+  pub goes-to : n ≡ (moved w r).routed.offices
+  goes-to = e ∙ sym (told-offices r)
+
+  pub asks-same : asks (told_row (Ok n)) ≡ asks (moved w r).routed
+  unfolding asks
+  asks-same = rw goes-to refl
+
+  pub questions-same : (row : TraceRow) → question_in row (told_row (Ok n)) ≡ question_in row (moved w r).routed
+  unfolding question_in
+  questions-same row = rw goes-to refl
+
+-- ---- a whole row in front of what is left of a trace
+
+module _ (rows front rest : List ℕ) (i : ℕ) (e : drop i rows ≡ front ++ rest) (five : length front ≡ 5) where
+  pub front-room : i + 5 ≤ length rows
+  front-room = omega (arith, length-drop i rows, ap length e, length-append front rest, five)
+
+  pub front-rest : rest ≡ drop (i + 5) rows
+  front-rest = sym (drop-append_seam front rest) ∙ ap₂ drop five (sym e) ∙ drop-drop 5 i rows
+
+  word-at : (k : ℕ) → k < 5 → get_or front k 0 ≡ get_or rows (i + k) 0
+  word-at k l = sym (get_or-append front rest 0 k (omega (arith, five))) ∙ ap (λ (xs : List ℕ). get_or xs k 0) (sym e) ∙ get_or-drop i rows k 0
+
+  word-first : get_or front 0 0 ≡ get_or rows i 0
+  word-first = let z : i + 0 ≡ i = omega arith in word-at 0 (omega arith) ∙ ap (λ (k : ℕ). get_or rows k 0) z
+
+  pub front-row : row_of_words front 0 ≡ row_of_words rows i
+  unfolding row_of_words
+  front-row = rw (word-first, word-at 1 (omega arith), word-at 2 (omega arith), word-at 3 (omega arith), word-at 4 (omega arith)) refl

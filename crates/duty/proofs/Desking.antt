@@ -19,6 +19,10 @@ module _ (s : List ℕ) (r : Refusal) (e : r ≡ verdict 1 s) where
   unfolding desk_fault
   desk-bad h = then-some-is r (verdict 1 s) _ e h
 
+  -- .. as `verdict::accept` tells it
+  pub desk-told : (r.number ≡ 0 → ⊥) → (r ≡ desk_fault s) × (r.number ≡ 0 → ⊥)
+  desk-told h = (desk-bad h, h)
+
   module _ (z : r.number ≡ 0) (h : Header) (q : h ≡ header_of s) where
     pub desk-lacks : h.offices < 2 → record { number = 3; sheet = 1; row = 0 } ≡ desk_fault s
     unfolding desk_fault ◌when◌otherwise◌ refuse

@@ -9,6 +9,9 @@ use lib.ListN.{length, drop, replicate, length-replicate}
 use lib.Seq.{sets-eq}
 use borrow.Author.Tests.{eq-eqb}
 use Rattle.sheet.specs.declared.Refusal.{Refusal}
+use Rattle.sheet.specs.declared.fault.Fault.{Fault}
+use Rattle.sheet.specs.FaultNumbers.{fault_number}
+use Rattle.std.specs.Prelude.{Result, Ok, Err}
 use Rattle.sheet.specs.Refusals.{none}
 use Rattle.sheet.specs.Named.{seen_at}
 use Rattle.sheet.proofs.Refusing.{refuse-plain}
@@ -16,15 +19,16 @@ use Rattle.sheet.proofs.Writing.{gives-refused, gives-short, gives-written, give
 use Rattle.question.specs.declared.Answer.{Answer}
 use Rattle.question.specs.Asked.{plain}
 use Rattle.question.specs.Replies.{Replies, refused_by, tells}
-use Rattle.question.proofs.Telling.{refuses, reply-refused, reply-told}
-use Rattle.watch.specs.declared.CountedTrace.{CountedTrace}
-use Rattle.watch.specs.declared.Moved.{Moved}
+use Rattle.question.proofs.Telling.{fault-some, refuses, reply-refused, reply-told}
+use Rattle.watch.specs.Trace.{CountedTrace}
+use Rattle.watch.specs.WatchTable.{Moved, moved}
 use Rattle.watch.specs.declared.Watch.{Watch}
-use Rattle.watch.specs.Trace.{row_of_words, stepped_on, run_from, counted_trace}
+use Rattle.watch.specs.Trace.{row_of_words, stepped_on, run_from, told_count, counted_trace}
 use Rattle.duty.specs.declared.TraceReply.{TraceReply}
 use Rattle.duty.specs.Desk.{RowAnswer, desk_fault, after_desk}
 use Rattle.duty.specs.Promises.{table_left, DeskStepsAfter, DeskSteps, refused_trace, TracesAfter, Traces}
 use Rattle.duty.specs.Answering.{PutsAnswers}
+use Rattle.watch.proofs.Stepping.{stepped-keeps}
 use Rattle.duty.proofs.Answers.{answers-many}
 use Rattle.duty.proofs.Desking.{desk-refuses, desk-passes}
 
@@ -44,15 +48,18 @@ module _ (s : List ℕ) (timeout : ℕ) (ws : List ℕ) (w : Watch) where
   abbrev StepTells : ℕ → ℕ → Type 0
   StepTells value count = (count ≡ (stepped_on w timeout ws).routed.offices) × RowAnswer (seen_at s) (row_of_words ws 0) count value
 
-  pub step-refused : (m : Moved) (a : Answer) → m ≡ stepped_on w timeout ws → (m.routed.number ≡ 0 → ⊥) → a ≡ refused_by (record { number = m.routed.number; sheet = 0; row = 0 }) → DeskStepsAfter plain s timeout ws w a w
-  step-refused m a e h q = record {
-    replies = reply-refused StepTells (stepped_on w timeout ws).routed.number m.routed.number a (ap (λ (x : Moved). x.routed.number) e) h q;
-    table = sym (table_stays a.number w _ (λ z. h (sym (ap (λ (x : Answer). x.number) q) ∙ z)));
+  -- as the code tells it: the table that is left, and what refuses the row, or how many offices its question goes to
+  pub step-refused : (w' : Watch) (f : Fault) (a : Answer) → moved w' (Err f) ≡ stepped_on w timeout ws → a ≡ refused_by (record { number = fault_number f; sheet = 0; row = 0 }) → DeskStepsAfter plain s timeout ws w a w'
+  step-refused w' f a e q = record {
+    replies = reply-refused StepTells (stepped_on w timeout ws).routed.number (fault_number f) a (ap (λ (x : Moved). x.routed.number) e) (fault-some f) q;
+    table = ap (λ (x : Moved). x.watch) e
+        ∙ stepped-keeps w timeout ws (λ z. fault-some f (ap (λ (x : Moved). x.routed.number) e ∙ z))
+        ∙ sym (table_stays a.number w _ (λ z. fault-some f (sym (ap (λ (x : Answer). x.number) q) ∙ z)));
   }
 
-  pub step-told : (m : Moved) (a : Answer) (v : ℕ) → m ≡ stepped_on w timeout ws → m.routed.number ≡ 0 → RowAnswer (seen_at s) (row_of_words ws 0) m.routed.offices v → a ≡ tells v m.routed.offices → DeskStepsAfter plain s timeout ws w a m.watch
-  step-told m a v e z x q = record {
-    replies = reply-told StepTells (stepped_on w timeout ws).routed.number v m.routed.offices a (ap (λ (y : Moved). y.routed.number) (sym e) ∙ z) (ap (λ (y : Moved). y.routed.offices) e, x) q;
+  pub step-told : (w' : Watch) (n : ℕ) (a : Answer) (v : ℕ) → moved w' (Ok n) ≡ stepped_on w timeout ws → RowAnswer (seen_at s) (row_of_words ws 0) n v → a ≡ tells v n → DeskStepsAfter plain s timeout ws w a w'
+  step-told w' n a v e x q = record {
+    replies = reply-told StepTells (stepped_on w timeout ws).routed.number v n a (sym (ap (λ (y : Moved). y.routed.number) e)) (ap (λ (y : Moved). y.routed.offices) e, x) q;
     table = ap (λ (y : Moved). y.watch) e ∙ sym (table-moves a.number w (stepped_on w timeout ws).watch (ap (λ (y : Answer). y.number) q));
   }
 
@@ -75,14 +82,14 @@ module _ (s : List ℕ) (timeout : ℕ) (rows out : List ℕ) where
   abbrev number : ℕ
   number = (run_from timeout [] rows).number
 
-  run-number : (c : CountedTrace) → c ≡ counted_trace (run_from timeout [] rows) → c.number ≡ number
+  run-number : (r : Result ℕ Fault) → told_count r ≡ counted_trace (run_from timeout [] rows) → (told_count r).number ≡ number
   unfolding counted_trace
-  run-number c e = ap (λ (x : CountedTrace). x.number) e
+  run-number r e = ap (λ (x : CountedTrace). x.number) e
 
-  pub run-good : (c : CountedTrace) → c ≡ counted_trace (run_from timeout [] rows) → c.number ≡ 0 → (number ≡ 0) × (c.count ≡ length (run_from timeout [] rows).questions)
+  pub run-good : (n : ℕ) → told_count (Ok n) ≡ counted_trace (run_from timeout [] rows) → (number ≡ 0) × (n ≡ length (run_from timeout [] rows).questions)
   unfolding counted_trace
-  run-good c e z =
-      let y : number ≡ 0 = sym (run-number c e) ∙ z in
+  run-good n e =
+      let y : number ≡ 0 = sym (run-number (Ok n) e) in
       (y, ap (λ (x : CountedTrace). x.count) e ∙ ap (λ (b : Bool). cond b (length (run_from timeout [] rows).questions) 0) (eq-eqb number 0 y))
 
   -- a trace that is refused has answers that nobody sees
@@ -93,14 +100,14 @@ module _ (s : List ℕ) (timeout : ℕ) (rows out : List ℕ) where
   unfolding unseen
   unseen-many = length-replicate (length (run_from timeout [] rows).questions) 0
 
-  pub trace-refused : (c : CountedTrace) (a : TraceReply) → c ≡ counted_trace (run_from timeout [] rows) → (c.number ≡ 0 → ⊥) → a ≡ record { number = c.number; sheet = 0; row = 0; count = 0 } → TracesAfter plain s timeout rows out a out
-  trace-refused c a e h q =
-      let v : record { number = c.number; sheet = 0; row = 0 } ≡ plain number = refuse-plain number c.number (run-number c e) in
+  pub trace-refused : (f : Fault) (a : TraceReply) → told_count (Err f) ≡ counted_trace (run_from timeout [] rows) → a ≡ record { number = fault_number f; sheet = 0; row = 0; count = 0 } → TracesAfter plain s timeout rows out a out
+  trace-refused f a e q =
+      let v : record { number = fault_number f; sheet = 0; row = 0 } ≡ plain number = refuse-plain number (fault_number f) (run-number (Err f) e) in
       rw q record {
         answers = unseen;
         many = unseen-many;
-        are = λ z. absurd (h z);
-        gives = gives_as _ (plain number) unseen out _ 0 out v (gives-refused unseen out (record { number = c.number; sheet = 0; row = 0 }) h);
+        are = λ z. absurd (fault-some f z);
+        gives = gives_as _ (plain number) unseen out _ 0 out v (gives-refused unseen out (record { number = fault_number f; sheet = 0; row = 0 }) (fault-some f));
       }
 
   module _ (good : number ≡ 0) (n : ℕ) (k : n ≡ length (run_from timeout [] rows).questions) where

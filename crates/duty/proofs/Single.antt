@@ -15,7 +15,7 @@ use Rattle.question.specs.declared.Answer.{Answer}
 use Rattle.question.specs.Replies.{tells}
 use Rattle.question.proofs.Single.{replies-one}
 use Rattle.watch.specs.declared.TraceRow.{TraceRow}
-use Rattle.watch.specs.declared.Moved.{Moved}
+use Rattle.watch.specs.WatchTable.{Moved}
 use Rattle.watch.specs.declared.Watch.{Watch}
 use Rattle.watch.specs.Trace.{TraceQuestion, row_of_words, stepped_on, run_from}
 use Rattle.duty.specs.declared.TraceReply.{TraceReply}
@@ -28,18 +28,18 @@ module _ (s : List ℕ) (timeout : ℕ) (ws : List ℕ) (w : Watch) where
   abbrev row : TraceRow
   row = row_of_words ws 0
 
-  abbrev moved : Moved
-  moved = stepped_on w timeout ws
+  abbrev moved-one : Moved
+  moved-one = stepped_on w timeout ws
 
-  told-one : (v c v' c' : ℕ) → (c ≡ moved.routed.offices) × RowAnswer (seen_at s) row c v → (c' ≡ moved.routed.offices) × RowAnswer (seen_at s) row c' v' → tells v c ≡ tells v' c'
+  told-one : (v c v' c' : ℕ) → (c ≡ moved-one.routed.offices) × RowAnswer (seen_at s) row c v → (c' ≡ moved-one.routed.offices) × RowAnswer (seen_at s) row c' v' → tells v c ≡ tells v' c'
   told-one v c v' c' p q =
       let e : c ≡ c' = p.0 ∙ sym q.0 in
       ap₂ tells (desk-one (seen_at s) row.person row.deed row.folio (in_turn c') v v' (subst (λ (n : ℕ). RowAnswer (seen_at s) row n v) e p.1) q.1) e
 
   pub steps-one : {a b : Answer} {w' w'' : Watch} → DeskSteps s timeout ws w a w' → DeskSteps s timeout ws w b w'' → (a ≡ b) × (w' ≡ w'')
   steps-one {a} {b} {w'} {w''} x y =
-      let e : a ≡ b = replies-one (after_desk s moved.routed.number) (λ v c. (c ≡ moved.routed.offices) × RowAnswer (seen_at s) row c v) told-one x.replies y.replies in
-      (e, x.table ∙ ap (λ (r : Answer). table_left r.number w moved.watch) e ∙ sym y.table)
+      let e : a ≡ b = replies-one (after_desk s moved-one.routed.number) (λ v c. (c ≡ moved-one.routed.offices) × RowAnswer (seen_at s) row c v) told-one x.replies y.replies in
+      (e, x.table ∙ ap (λ (r : Answer). table_left r.number w moved-one.watch) e ∙ sym y.table)
 
 module _ (s : List ℕ) (timeout : ℕ) (rows out : List ℕ) where
   abbrev questions : List TraceQuestion

@@ -1,6 +1,6 @@
 -- What joining two one-office sheets returns, and what it leaves in the output.
 -- Assumes nothing.
-use Rattle.std.specs.Prelude.{ℕ, ◌+◌, ◌-◌, ◌≤◌, ◌≡◌, not, List, ◌++◌, length, drop}
+use Rattle.std.specs.Prelude.{ℕ, ◌+◌, ◌-◌, ◌≤◌, ◌≡◌, not, List, ◌++◌, length, drop, Result, Ok, Err}
 use Rattle.tables.specs.Count.{shared}
 use Rattle.tables.specs.Key.{Key}
 use Rattle.sheet.specs.declared.Refusal.{Refusal}
@@ -58,6 +58,11 @@ join_fault a b room = sheets_fault a b then union_fault a b room
 -- a refusal's number and place, and nothing else
 abbrev pub refused_join : Refusal → Joined
 refused_join r = record { number = r.number; sheet = r.sheet; row = r.row; words = 0; nodes = 0; edges = 0; sharednodes = 0; sharededges = 0 }
+
+-- what joining tells, as the struct that C takes for both
+abbrev pub joined_of : Result Joined Refusal → Joined
+joined_of (Ok j) = j
+joined_of (Err r) = refused_join r
 
 -- the joint sheet's words and counts, with the shared counts of the sheets joined
 abbrev pub made_join : List ℕ → List ℕ → List ℕ → Joined

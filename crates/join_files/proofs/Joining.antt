@@ -112,12 +112,12 @@ module _ (a b w : List ℕ) where
     abbrev Tells : Joined → Type 0
     Tells y = JoinsBytes (join_fault a b (length out / 4)) a b out y out'
 
-    encoded : {r : Joined} {w' : List ℕ} → Joins (join_fault a b max_words) a b w r w' → r.number ≡ 0 → Writes none (bytes_of (take (r.words - 0) w')) out x out' → (x.number ≡ 0 → Tells r) × ((x.number ≡ 0 → ⊥) → Tells (refused_join x))
+    encoded : {r : Joined} {w' : List ℕ} → Joins (join_fault a b max_words) a b w r w' → r.number ≡ 0 → Writes none (bytes_of (take r.words w')) out x out' → (x.number ≡ 0 → Tells r) × ((x.number ≡ 0 → ⊥) → Tells (refused_join x))
     encoded (refused h) z y = absurd (h z)
     encoded (joined j q i n e l) z y = go (dec_lt (length out) (length (bytes_of j)))
       where
         bytes : Writes none (bytes_of j) out x out'
-        bytes = subst (λ (v : List ℕ). Writes none (bytes_of v) out x out') (take_at j (drop (length j) w) (length j - 0) (omega arith)) y
+        bytes = subst (λ (v : List ℕ). Writes none (bytes_of v) out x out') (take_at j (drop (length j) w) (length j) (omega arith)) y
 
         long : length (bytes_of j) ≡ 4 * sheet_words (header_of a).form (union_nodes a b) (union_edges a b)
         long = bytes-long j ∙ ap (λ (k : ℕ). 4 * k) (joint-long a b j i (form-kept a b max_words q j i.accepted) n e)
@@ -148,7 +148,7 @@ module _ (a b w w' : List ℕ) (r : Joined) (k : length w ≡ max_words) (x : Jo
     pub part-fits : r.words ≤ length w'
     part-fits = words-fit a b w at-longest z
 
-    module _ (out : List ℕ) (y : Refusal) (out' : List ℕ) (e : Writes none (bytes_of (take (r.words - 0) w')) out y out') where
+    module _ (out : List ℕ) (y : Refusal) (out' : List ℕ) (e : Writes none (bytes_of (take r.words w')) out y out') where
       pub bytes-written : y.number ≡ 0 → JoinsBytes (join_fault a b (length out / 4)) a b out r out'
       bytes-written = (encoded a b w out y out' at-longest z e).0
 
@@ -158,7 +158,7 @@ module _ (a b w w' : List ℕ) (r : Joined) (k : length w ≡ max_words) (x : Jo
 -- ---- the files
 
 -- the words that a file is decoded into, as far as they are its own
-pub decoded-part : (bytes w w' : List ℕ) (r : Refusal) → length bytes ≤ 4 * length w → Writes none (words_of bytes) w r w' → take (length bytes / 4 - 0) w' ≡ words_of bytes
+pub decoded-part : (bytes w w' : List ℕ) (r : Refusal) → length bytes ≤ 4 * length w → Writes none (words_of bytes) w r w' → take (length bytes / 4) w' ≡ words_of bytes
 decoded-part bytes w w' r l x = decoded w' bytes _ (writes-room (words_of bytes) w r w' x (omega (arith, l, words_long bytes))).1
 
 -- the join of the parts is the join of the files' words

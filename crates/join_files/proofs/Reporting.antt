@@ -1,6 +1,6 @@
 -- What is said of a join: its lines one behind the other, at the front of the text lent.
 -- Assumes nothing.
-use Prim.Native.Nat.{ℕ, ◌-◌, ◌<◌, ◌≤◌}
+use Prim.Native.Nat.{ℕ, ◌<◌, ◌≤◌}
 use mathlib.Core.Path.{◌≡◌, refl, sym, ap, ◌∙◌}
 use mathlib.Core.Bool.{Bool, true, false, cond}
 use mathlib.Core.List.{List, ◌++◌, append_assoc}
@@ -41,14 +41,12 @@ module _ (report text line : List ℕ) (n : ℕ) (h : n ≤ length line) (e : ta
   pub report-short : length text < n → Reports report text 0 text
   report-short l = record { told = ap (λ (b : Bool). cond b 0 (length report)) (sym (lt-ltb (length text) (length report) (omega (arith, l, long)))); holds = refl }
 
-  pub report-whole : (t : List ℕ) → n ≤ length text → t ≡ take (n - 0) line → Reports report text n (t ++ drop (n - 0) text)
+  pub report-whole : (t : List ℕ) → n ≤ length text → t ≡ take n line → Reports report text n (t ++ drop n text)
   report-whole t l f =
-      let z : n - 0 ≡ n = omega arith in
-      let p : t ≡ report = f ∙ ap (λ (i : ℕ). take i line) z ∙ e in
       let q : take n report ≡ report = take_all n report (omega (arith, long)) in
       record {
         told = long ∙ ap (λ (x : Bool). cond x 0 (length report)) (sym (le-ltb (length text) (length report) (omega (arith, l, long))));
-        holds = ap (λ (y : List ℕ). y ++ drop (n - 0) text) (p ∙ sym q) ∙ ap (λ (i : ℕ). take n report ++ drop i text) z;
+        holds = ap (λ (y : List ℕ). y ++ drop n text) (f ∙ e ∙ sym q);
       }
 
 -- what is told is a part of the text

@@ -15,6 +15,7 @@ use sheet::MAX_WORDS;
 pub const LONGEST: usize = 70;
 
 // Joins two sheets into lent bytes. The words that they are first joined into have room for any sheet, so 25 is the bytes' own.
+// Stays: here and below a refusal is a number that is 0 for none, as `join` and `files` tell it in the structs that C takes.
 fn join_words(first: &[u32], second: &[u32], out: &mut [u8]) -> Joined
     ensures { JoinsBytes (join_fault first.now second.now (length out.old / 4)) first.now second.now out.old result out.new }
 {
@@ -23,8 +24,7 @@ fn join_words(first: &[u32], second: &[u32], out: &mut [u8]) -> Joined
     if j.number != 0 {
         return j;
     }
-    let n = j.words as usize;
-    let r = files::encode(&words[0..n], out);
+    let r = files::encode(&words[..j.words as usize], out);
     if r.number != 0 {
         return join::refused_join(r);
     }
@@ -38,11 +38,9 @@ fn join_decoded(first: &[u8], second: &[u8], out: &mut [u8]) -> Joined
 {
     let mut a = [0u32; MAX_WORDS];
     files::decode(first, &mut a);
-    let n = first.len() / 4;
     let mut b = [0u32; MAX_WORDS];
     files::decode(second, &mut b);
-    let m = second.len() / 4;
-    join_words(&a[0..n], &b[0..m], out)
+    join_words(&a[..first.len() / 4], &b[..second.len() / 4], out)
 }
 
 // Joins the sheets in two files into lent bytes, which a refusal leaves as they are.
@@ -61,6 +59,7 @@ pub fn join_files(first: &[u8], second: &[u8], out: &mut [u8]) -> Joined
 }
 
 // The two lines of a join, at the front of a text that has room for them; the result is how long they are.
+// Stays: printed by `text` into lent bytes, here and below, since the theorems on a report speak of its very bytes.
 fn put_lines(j: Joined, text: &mut [u8]) -> usize
     requires { 70 ≤ length text.old }
     ensures { (result ≤ 70) × (take result text.new ≡ two_lines j) }
@@ -100,6 +99,6 @@ pub fn report(j: Joined, text: &mut [u8]) -> usize
     if text.len() < n {
         return 0;
     }
-    text[0..n].copy_from_slice(&line[0..n]);
+    text[..n].copy_from_slice(&line[..n]);
     n
 }

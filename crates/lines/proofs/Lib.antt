@@ -1,6 +1,5 @@
 pub mod Counting
 pub mod Fitting
-pub mod Ends
 pub mod Spelled
 pub mod Decimals
 pub mod Back

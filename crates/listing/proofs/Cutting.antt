@@ -2,39 +2,51 @@
 -- Assumes nothing.
 use Prim.Native.Nat.{ℕ, suc, ◌+◌, ◌-◌, ◌<◌, ◌≤◌}
 use mathlib.Core.Path.{◌≡◌, refl, sym, ap, ◌∙◌}
-use mathlib.Core.Bool.{Bool, true, false, cond, true≢false}
+use mathlib.Core.Bool.{Bool, true, false, not, cond}
 use mathlib.Core.List.{List, [], ◌∷◌}
 use native.Mathlib.Omega.{arith}
 use native.Mathlib.Decide.{dec_lt}
 use native.Mathlib.Numerals.{add-one}
-use lib.Dec.{eqb}
+use lib.Dec.{eqb, ltb}
 use lib.ListN.{length, get_or, take, drop, length-drop, drop_of_length-le}
 use lib.Seq.{drop-drop, drop-cons}
-use borrow.Author.Tests.{eq-eqb, ne_eqb}
+use borrow.Author.Tests.{ltb-true, ltb-false}
 use borrow.Author.Count.{below_none, below_more}
-use Rattle.sheet.specs.Found.{FirstFound}
+use Rattle.std.specs.List.{position, position_or_len}
+use Rattle.std.specs.Bool.{◌==◌}
+use Rattle.std.proofs.lemmas.Option.{none-some, cond_some}
+use Rattle.std.specs.Prelude.{Some, None, Result, Err}
+use Rattle.sheet.specs.declared.fault.Fault.{Fault}
+use Rattle.sheet.specs.declared.fault.Fault.TheVariants.{UnlikeLine}
+use Rattle.sheet.specs.Found.{FirstAt}
 use Rattle.lines.specs.declared.Line.{Line}
 use Rattle.lines.specs.Nine.{faulty, said}
+use Rattle.lines.specs.LineTold.{line_told, TellsLine}
 use Rattle.listing.specs.declared.Taken.{Taken}
 use Rattle.listing.specs.Cut.{cut_up, begun, lines_said, line_at}
 use Rattle.listing.specs.LineByLine.{index_of, index_after, CameTo, TakesLine}
 
 -- ---- where a line ends
 
--- the byte that is sought stands in front
-pub index-here : (x : ℕ) (t : List ℕ) (i : ℕ) → i < length t → get_or t i 0 ≡ x → index_of x (drop i t) ≡ 0
+-- the library's search for a line feed
+feed-index : (t : List ℕ) → position_or_len (λ b. b == 10) t ≡ index_of 10 t
 unfolding index_of index_after
-index-here x t i h e = rw (drop-cons t i 0 h, eq-eqb (get_or t i 0) x e)
+feed-index [] = refl
+feed-index (b ∷ t) = go (eqb b 10) (feed-index t)
+  where
+    go : (f : Bool) → position_or_len (λ b. b == 10) t ≡ index_of 10 t → cond (not f) (1 + position_or_len (λ b. b == 10) t) 0 ≡ index_after f (index_of 10 t)
+    go true e = refl
+    go false e = omega (arith, e)
 
--- another byte stands in front
-pub index-further : (x : ℕ) (t : List ℕ) (i : ℕ) → i < length t → (get_or t i 0 ≡ x → ⊥) → index_of x (drop i t) ≡ suc (index_of x (drop (suc i) t))
-unfolding index_of index_after
-index-further x t i h n = rw (drop-cons t i 0 h, ne_eqb (get_or t i 0) x n)
+pub feed-found : (t : List ℕ) (n : ℕ) → Some n ≡ position (λ b. b == 10) t → (n ≡ index_of 10 t) × (n < length t)
+feed-found t n e = let q = cond_some (ltb (position_or_len (λ b. b == 10) t) (length t)) _ _ (sym e) in (sym q.1 ∙ feed-index t, rw (sym q.1) (ltb-true _ _ q.0))
 
--- none is left
-pub index-none : (x : ℕ) (t : List ℕ) (i : ℕ) → length t ≤ i → index_of x (drop i t) ≡ 0
-unfolding index_of
-index-none x t i h = rw (drop_of_length-le t {i = i} h)
+pub feed-missing : (t : List ℕ) → None ≡ position (λ b. b == 10) t → length t ≤ index_of 10 t
+feed-missing t e = go (ltb (position_or_len (λ b. b == 10) t) (length t)) refl
+  where
+    go : (b : Bool) → ltb (position_or_len (λ b. b == 10) t) (length t) ≡ b → length t ≤ index_of 10 t
+    go true q = absurd (none-some (position_or_len (λ b. b == 10) t) (e ∙ rw q refl))
+    go false q = omega (arith, feed-index t, ltb-false _ _ q)
 
 -- ---- the first line
 
@@ -85,25 +97,27 @@ module _ (text : List ℕ) (at : ℕ) (h : at < length text) where
     feed-at : at + index_of 10 (drop at text) ≡ end
     feed-at = sym e
 
-    pub takes-line : end < length text → (l : Line) → l ≡ said (take (end - at) (drop at text)) → TakesLine text at (record { line = l; next = end + 1 })
+    pub takes-line : end < length text → (l : Result Line Fault) → TellsLine (said (take (end - at) (drop at text))) l → TakesLine text at (record { line = l; next = end + 1 })
     takes-line g l q =
         let k : index_of 10 (drop at text) ≡ end - at = omega (arith, feed-at) in
         let z : at + suc (index_of 10 (drop at text)) ≡ end + 1 = omega (arith, feed-at) in
         record {
           inside = omega arith;
           passed = omega (arith, feed-at);
+          good = q.good;
           says = says_first (drop at text) (omega (arith, feed-at, length-drop at text))
               ∙ (λ i. ap (λ (n : ℕ). said (take n (drop at text))) k i ∷ lines_said (drop-drop (suc (index_of 10 (drop at text))) at text i))
-              ∙ (λ i. sym q i ∷ lines_said (drop (z i) text));
+              ∙ (λ i. sym q.line i ∷ lines_said (drop (z i) text));
         }
 
-    pub takes-last : length text ≤ end → (l : Line) → l ≡ faulty 40 → TakesLine text at (record { line = l; next = length text })
-    takes-last g l q =
+    pub takes-last : length text ≤ end → TakesLine text at (record { line = Err UnlikeLine; next = length text })
+    takes-last g =
         let n : drop (length text) text ≡ [] = drop_of_length-le text {i = length text} (omega arith) in
         record {
           inside = omega arith;
           passed = h;
-          says = says_last (drop at text) (omega (arith, length-drop at text)) (omega (arith, feed-at, length-drop at text)) ∙ (λ i. sym q i ∷ (sym says_none ∙ ap lines_said (sym n)) i);
+          good = tt;
+          says = says_last (drop at text) (omega (arith, length-drop at text)) (omega (arith, feed-at, length-drop at text)) ∙ (λ i. faulty 40 ∷ (sym says_none ∙ ap lines_said (sym n)) i);
         }
 
 -- ---- from line to line
@@ -129,21 +143,21 @@ module _ (text : List ℕ) where
         omega (arith, ap length e, length-drop i (lines_said text), C.many)
 
     module _ (r : Taken) (T : TakesLine text at r) where
-      next-line : drop i (lines_said text) ≡ r.line ∷ lines_said (drop r.next text)
+      next-line : drop i (lines_said text) ≡ line_told r.line ∷ lines_said (drop r.next text)
       next-line = C.rest ∙ T.says
 
       pub came-inside : i < length (lines_said text)
       came-inside = omega (arith, ap length next-line, length-drop i (lines_said text))
 
-      both : get_or (lines_said text) i (faulty 40) ∷ drop (suc i) (lines_said text) ≡ r.line ∷ lines_said (drop r.next text)
+      both : get_or (lines_said text) i (faulty 40) ∷ drop (suc i) (lines_said text) ≡ line_told r.line ∷ lines_said (drop r.next text)
       both = sym (drop-cons (lines_said text) i (faulty 40) came-inside) ∙ next-line
 
-      pub line_taken : r.line ≡ line_at (lines_said text) i
+      pub line_taken : line_told r.line ≡ line_at (lines_said text) i
       line_taken = cc both
 
       -- what is told of the line taken is told of line i
-      pub line-tells : (f : Line → Bool) (b v : Bool) → b ≡ f r.line → b ≡ v → f (line_at (lines_said text) i) ≡ v
-      line-tells f b v e q = ap f (sym line_taken) ∙ sym e ∙ q
+      pub line-tells : (f : Line → Bool) (l : Line) → l ≡ line_told r.line → (b v : Bool) → b ≡ f l → b ≡ v → f (line_at (lines_said text) i) ≡ v
+      line-tells f l t b v e q = ap f (sym (t ∙ line_taken)) ∙ sym e ∙ q
 
       pub came-next : CameTo text (i + 1) r.next
       came-next =
@@ -166,13 +180,8 @@ module _ (text : List ℕ) (P : ℕ → Type 0) where
 
 -- the first line that passes a test, or none
 module _ (text : List ℕ) (test : ℕ → Bool) (count i at : ℕ) (T : PassedBy text (λ j. test j ≡ false) i at) where
-  pub stands_here : i < count → test i ≡ true → FirstFound test count (record { found = true; row = i })
-  stands_here h e = record { first = record { most = omega arith; before = T.so_far; found = λ l. e }; met = λ q. h; missed = λ q. absurd (true≢false q) }
+  pub stands_here : i < count → test i ≡ true → FirstAt test count (Some i)
+  stands_here h e = (h, record { most = omega arith; before = T.so_far; found = λ l. e })
 
-  pub stands-nowhere : count ≤ i → FirstFound test count (record { found = false; row = count })
-  stands-nowhere h =
-      record {
-        first = record { most = omega arith; before = λ j l. T.so_far j (omega arith); found = λ l. absurd (omega arith) };
-        met = λ q. absurd (true≢false (sym q));
-        missed = λ q. refl;
-      }
+  pub stands-nowhere : count ≤ i → FirstAt test count None
+  stands-nowhere h = record { most = omega arith; before = λ j l. T.so_far j (omega arith); found = λ l. absurd (omega arith) }

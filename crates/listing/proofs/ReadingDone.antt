@@ -24,12 +24,15 @@ use Rattle.sheet.proofs.Writing.{gives-short, gives-written, gives_as}
 use Rattle.lines.specs.declared.Line.{Line}
 use Rattle.lines.specs.Naming.{is_node_line, from_line, to_line, line_key}
 use Rattle.sorting.specs.Sorted.{most_sorted}
+use Rattle.std.specs.Prelude.{Result}
+use Rattle.sheet.specs.declared.fault.Fault.{Fault}
+use Rattle.listing.specs.ListingTold.{listing_by}
 use Rattle.listing.specs.declared.FirstFault.{FirstFault}
 use Rattle.listing.specs.declared.Listing.{Listing}
 use Rattle.listing.specs.Cut.{lines_said, line_at}
 use Rattle.listing.specs.Faults.{says_this, node_lines, edge_lines, count_fault, listing_fault}
 use Rattle.listing.specs.Laying.{key_in, first_edge, too_many_rows, RowWords, ReadsGood, too_long, too_many, too_short, laid}
-use Rattle.listing.specs.LineByLine.{LooksThrough, Tabled, lacks_end}
+use Rattle.listing.specs.LineByLine.{fault_told, LooksThrough, Tabled, lacks_end}
 use Rattle.listing.specs.Meant.{Means}
 use Rattle.listing.specs.Promises.{refusal_in, ReadsListing}
 use Rattle.listing.proofs.MeantSheet.{Faultless, node-words-there, edge-words-there, node-count, edge_count, t-means}
@@ -38,7 +41,7 @@ use Rattle.listing.proofs.Refused.{own-good, none-but-4, both_halves, over-sorte
 
 -- ---- what was found of the lines
 
-module _ (text : List ℕ) (s : FirstFault) (L : LooksThrough (lines_said text) s) (whole : s.fault ≡ 0)
+module _ (text : List ℕ) (s : FirstFault) (L : LooksThrough (lines_said text) s) (whole : fault_told s.fault ≡ 0)
     (r : ℕ) (x : FirstStanding (λ i. says_this (lines_said text) i (line_at (lines_said text) i)) s.count r) (none-repeats : s.count ≤ r)
     (q : ℕ) (y : FirstStanding (λ i. lacks_end (lines_said text) s.count (line_at (lines_said text) i)) s.count q) (none-lacks : s.count ≤ q) where
   abbrev ls : List Line
@@ -113,7 +116,7 @@ module _ (text : List ℕ) (s : FirstFault) (L : LooksThrough (lines_said text) 
       meant : too_many_rows n (s.count - n) ≡ false → (wn we : List ℕ) → RowWords Nodes rows order 0 n wn → RowWords Edges rows order n (length ls - n) we → Means ls (header_six 1 1 n (length ls - n) ++ wn ++ we)
       meant h wn we WN WE = let l = limits h in t-means ls faultless rows order few' T' n N wn we l.0 l.1 WN WE
 
-    pub read-good-done : (a : Listing) (out' : List ℕ) → ReadsGood s.count rows order out a out' → ReadsListing text out a out'
+    pub read-good-done : (a : Result ℕ Fault) (out' : List ℕ) → ReadsGood s.count rows order out a out' → ReadsListing text out (listing_by a) out'
     read-good-done a out' (too_long h) = four-refuses _ refl (over-sorted (node_lines ls) (edge_lines ls) (length ls) (both_halves ls) (omega (arith, all-looked)))
     read-good-done a out' (too_many n few N h) = four-refuses _ refl (sym (counts few n N) ∙ h)
     read-good-done a out' (too_short n few N h short) =
@@ -123,7 +126,7 @@ module _ (text : List ℕ) (s : FirstFault) (L : LooksThrough (lines_said text) 
         record {
           sheet = header_six 1 1 n (length ls - n) ++ wn.0 ++ we.0;
           means = λ z. meant few n N h wn.0 we.0 wn.1 we.1;
-          gives = gives_as none (listing_fault text) _ out (refusal_in a) a.count out (not-refused (sym (counts few n N) ∙ h)) (gives-short _ out (omega (arith, size, short)));
+          gives = gives_as none (listing_fault text) _ out (refusal_in (listing_by a)) (listing_by a).count out (not-refused (sym (counts few n N) ∙ h)) (gives-short _ out (omega (arith, size, short)));
         }
     read-good-done a out' (laid n o few N h room S) =
         let WE : RowWords Edges rows order n (length ls - n) S.edge-words = subst (λ (m : ℕ). RowWords Edges rows order n (m - n) S.edge-words) all-looked S.edges in
@@ -131,6 +134,6 @@ module _ (text : List ℕ) (s : FirstFault) (L : LooksThrough (lines_said text) 
         record {
           sheet = header_six 1 1 n (length ls - n) ++ S.node-words ++ S.edge-words;
           means = λ z. meant few n N h S.node-words S.edge-words S.nodes WE;
-          gives = gives_as none (listing_fault text) _ out (refusal_in a) a.count out' (not-refused (sym (counts few n N) ∙ h))
+          gives = gives_as none (listing_fault text) _ out (refusal_in (listing_by a)) (listing_by a).count out' (not-refused (sym (counts few n N) ∙ h))
               (gives-written _ out out' _ size room (S.holds ∙ ap (λ (m : ℕ). (header_six 1 1 n (m - n) ++ S.node-words ++ S.edge-words) ++ drop (length (header_six 1 1 n (m - n) ++ S.node-words ++ S.edge-words)) out) all-looked));
         }

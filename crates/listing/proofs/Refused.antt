@@ -15,8 +15,12 @@ use Rattle.tables.proofs.Keys.{same-eq}
 use Rattle.sheet.specs.declared.Refusal.{Refusal}
 use Rattle.sheet.specs.Limits.{max_nodes, max_edges}
 use Rattle.sheet.specs.Refusals.{none, refuse, first_row, ◌or_else◌}
-use Rattle.sheet.proofs.Refusing.{refuse-some, refuse-none, then-some-is, then-none-is, else-good, else-none, else-some, line-good, line-none, rows_none, taken, left}
+use Rattle.sheet.proofs.Refusing.{some_is, none_is, refuse-some, refuse-none, then-some-is, then-none-is, else-good, else-none, else-some, line-good, line-none, rows_none, taken, left}
 use Rattle.sheet.proofs.Writing.{gives-refused, gives_as}
+use Rattle.std.specs.Prelude.{Option, Some, None, is_some}
+use Rattle.sheet.specs.declared.fault.Fault.{Fault}
+use Rattle.sheet.specs.FaultNumbers.{fault_number}
+use Rattle.lines.specs.Nine.{faulty}
 use Rattle.lines.specs.declared.Line.{Line}
 use Rattle.lines.specs.Naming.{is_node_line, within_itself, line_key, same_line}
 use Rattle.listing.specs.declared.FirstFault.{FirstFault}
@@ -25,7 +29,7 @@ use Rattle.listing.specs.Cut.{line_at}
 use Rattle.listing.specs.Faults.{says_this, line_fault, end_fault, node_lines, edge_lines, count_fault, lines_fault, listing_fault}
 use Rattle.sorting.specs.Sorted.{most_sorted}
 use Rattle.listing.specs.Laying.{too_many_rows}
-use Rattle.listing.specs.LineByLine.{own_fault, LooksThrough, lacks_end}
+use Rattle.listing.specs.LineByLine.{fault_told, own_fault, LooksThrough, lacks_end}
 use Rattle.listing.specs.Promises.{GivesListing, ReadsListing}
 use Rattle.listing.proofs.Giving.{reply_refused}
 
@@ -52,6 +56,31 @@ module _ (l : Line) where
   pub own-good : own_fault l ≡ 0 → (l.fault ≡ 0) × (within_itself l ≡ false)
   unfolding own_fault
   own-good e = let x = else-good _ _ e in (x.0, (line-good 14 _ 0 tt x.1).0)
+
+  pub own-within : l.fault ≡ 0 → within_itself l ≡ true → 14 ≡ own_fault l
+  unfolding own_fault
+  own-within f w = none_is _ _ _ _ refl f (taken _ _ _ w)
+
+  pub own-none : l.fault ≡ 0 → within_itself l ≡ false → 0 ≡ own_fault l
+  unfolding own_fault
+  own-none f w = none_is _ _ _ _ refl f (left _ _ _ _ w refl)
+
+-- each number of the table is one
+pub line-fault-some : (f : Fault) → fault_number f ≡ 0 → ⊥
+line-fault-some f e = grind arith
+
+-- whether there is a fault, by its number
+pub some-told : (f : Option Fault) → is_some f ≡ true → fault_told f ≡ 0 → ⊥
+some-told None e z = true≢false (sym e)
+some-told (Some f) e z = line-fault-some f z
+
+pub none-told : (f : Option Fault) → is_some f ≡ false → fault_told f ≡ 0
+none-told None e = refl
+none-told (Some f) e = absurd (true≢false e)
+
+pub own-of-fault : (f : Fault) → fault_number f ≡ own_fault (faulty (fault_number f))
+unfolding own_fault
+own-of-fault f = some_is _ _ _ refl (line-fault-some f)
 
 module _ (ls : List Line) (i : ℕ) where
   pub line-has-none : own_fault (line_at ls i) ≡ 0 → says_this ls i (line_at ls i) ≡ false → line_fault ls i ≡ 0
@@ -109,11 +138,11 @@ module _ (ls : List Line) (s : FirstFault) (L : LooksThrough ls s) where
       all-fine : (i : ℕ) → i < s.count → line_fault ls i ≡ 0
       all-fine i h = fine i h (omega arith)
 
-      pub refused-own : (s.fault ≡ 0 → ⊥) → record { number = s.fault; sheet = 0; row = s.count } ≡ lines_fault ls
+      pub refused-own : (fault_told s.fault ≡ 0 → ⊥) → record { number = fault_told s.fault; sheet = 0; row = s.count } ≡ lines_fault ls
       unfolding lines_fault says_this
       refused-own h =
           let t = L.stopped h in
-          let e : line_fault ls s.count ≡ s.fault = own (eqb (line_at ls s.count).fault 0) refl ∙ sym t.1 in
+          let e : line_fault ls s.count ≡ fault_told s.fault = own (eqb (line_at ls s.count).fault 0) refl ∙ sym t.1 in
           then-some-is _ _ _ ((λ i. record { number = sym e i; sheet = 0; row = s.count }) ∙ first-row-refuses 0 (line_fault ls) (length ls) s.count t.0 all-fine (λ z. h (sym e ∙ z))) h
         where
           unrepeated : (line_at ls s.count).fault ≡ 0 → says_this ls s.count (line_at ls s.count) ≡ false
@@ -127,7 +156,7 @@ module _ (ls : List Line) (s : FirstFault) (L : LooksThrough ls s) where
           own true q = line-own ls s.count (unrepeated (eqb-true _ 0 q))
           own false q = line-bad ls s.count (λ z. true≢false (sym (eq-eqb _ 0 z) ∙ q))
 
-      module _ (whole : s.fault ≡ 0) where
+      module _ (whole : fault_told s.fault ≡ 0) where
         none-of-line : first_row 0 (line_fault ls) 0 (length ls) ≡ none
         none-of-line = rows_none 0 (line_fault ls) (length ls) (λ j h. all-fine j (omega (arith, L.through whole)))
 

@@ -8,11 +8,12 @@ use native.Mathlib.Omega.{arith}
 use lib.ListN.{length, get_or, take, length-append, get_or-append}
 use lib.Seq.{sets, sets-eq, get_or-append-add, get_or-take, length-take-le}
 use borrow.Author.Count.{below_more}
-use Rattle.tables.specs.Count.{some_row}
+use Rattle.tables.specs.Count.{FirstStanding}
 use Rattle.tables.specs.Key.{same_key}
 use Rattle.tables.proofs.Counts.{some_at, some-none, seek-known, seek-unknown}
-use Rattle.sheet.specs.declared.Place.{Place}
-use Rattle.sheet.specs.Found.{FirstFound}
+use Rattle.std.specs.Prelude.{Option, Some, None, is_some}
+use Rattle.std.specs.Option.{unwrap_or}
+use Rattle.sheet.specs.Found.{FirstAt}
 use Rattle.lines.specs.declared.Line.{Line}
 use Rattle.lines.specs.Naming.{is_node_line, from_line, to_line, line_key, same_line}
 use Rattle.sorting.specs.Sorted.{most_sorted, four_at, four_of}
@@ -63,52 +64,52 @@ module _ (ls : List Line) (rows : List ℕ) (i : ℕ) (l : Line) (room : 4 * i +
 -- ---- finding
 
 -- a test that is the same finds the same
-first-as : (f g : ℕ → Bool) (n : ℕ) (p : Place) → ((j : ℕ) → j < n → f j ≡ g j) → FirstFound f n p → FirstFound g n p
-first-as f g n p e x =
-    let y = x.first in
-    let m = y.most in
-    record {
-      first = record { most = m; before = λ i h. sym (e i (omega arith)) ∙ y.before i h; found = λ h. sym (e p.row h) ∙ y.found h };
-      met = x.met;
-      missed = x.missed;
-    }
+standing-as : (f g : ℕ → Bool) (n r : ℕ) → ((j : ℕ) → j < n → f j ≡ g j) → FirstStanding f n r → FirstStanding g n r
+standing-as f g n r e x = let m = x.most in record { most = m; before = λ i h. sym (e i (omega arith)) ∙ x.before i h; found = λ h. sym (e r h) ∙ x.found h }
+
+first-as : (f g : ℕ → Bool) (n : ℕ) (p : Option ℕ) → ((j : ℕ) → j < n → f j ≡ g j) → FirstAt f n p → FirstAt g n p
+first-as f g n None e x = standing-as f g n n e x
+first-as f g n (Some r) e x = (x.0, standing-as f g n r e x.1)
 
 module _ (ls : List Line) (count : ℕ) (rows order : List ℕ) (T : Tabled ls count rows order) where
-  pub found-in-order : count ≤ most_sorted → (l : Line) (w : Four) (p : Place) → four_of w ≡ line_key l → FirstFound (λ i. same_key (four_at rows i) (four_of w)) (length order) p
-      → FirstFound (λ j. same_line (line_at ls j) l) count p
+  pub found-in-order : count ≤ most_sorted → (l : Line) (w : Four) (p : Option ℕ) → four_of w ≡ line_key l → FirstAt (λ i. same_key (four_at rows i) (four_of w)) (length order) p
+      → FirstAt (λ j. same_line (line_at ls j) l) count p
   found-in-order few l w p e x =
-      let y = subst (λ (n : ℕ). FirstFound (λ i. same_key (four_at rows i) (four_of w)) n p) (T.long few) x in
+      let y = subst (λ (n : ℕ). FirstAt (λ i. same_key (four_at rows i) (four_of w)) n p) (T.long few) x in
       first-as _ _ count p (λ j h. (λ k. same_key (T.filled few j h k) (e k))) y
 
-module _ (ls : List Line) (count i : ℕ) (h : i < count) (l : Line) (e : l ≡ line_at ls i) (p : Place) (x : FirstFound (λ j. same_line (line_at ls j) l) count p) where
+module _ (ls : List Line) (count i : ℕ) (h : i < count) (l : Line) (e : l ≡ line_at ls i) where
   -- an earlier line says the same, or none does
-  pub is-repeated : p.row < i → says_this ls i (line_at ls i) ≡ true
+  pub is-repeated : (p : Option ℕ) → FirstAt (λ j. same_line (line_at ls j) l) count p → unwrap_or p i < i → says_this ls i (line_at ls i) ≡ true
   unfolding says_this
-  is-repeated g = rw (← e) (some_at _ i p.row g (x.first.found (omega arith)))
+  is-repeated None x g = absurd (omega arith)
+  is-repeated (Some r) x g = rw (← e) (some_at _ i r g (x.1.found x.0))
 
-  pub not-repeated : i ≤ p.row → says_this ls i (line_at ls i) ≡ false
+  pub not-repeated : (p : Option ℕ) → FirstAt (λ j. same_line (line_at ls j) l) count p → i ≤ unwrap_or p i → says_this ls i (line_at ls i) ≡ false
   unfolding says_this
-  not-repeated g = rw (← e) (some-none _ i (λ j d. x.first.before j (omega arith)))
+  not-repeated None x g = rw (← e) (some-none _ i (λ j d. x.before j (omega arith)))
+  not-repeated (Some r) x g = rw (← e) (some-none _ i (λ j d. x.1.before j (omega arith)))
+
+-- what is not the one is the other
+pub not-swap : (a b : Bool) → a ≡ not b → b ≡ not a
+not-swap a true e = rw e refl
+not-swap a false e = rw e refl
 
 -- a search finds a line exactly if it is there
-module _ (ls : List Line) (count : ℕ) (l : Line) (p : Place) (x : FirstFound (λ j. same_line (line_at ls j) l) count p) where
-  pub says-told : p.found ≡ says_this ls count l
-  unfolding says_this
-  says-told = go p.found refl
-    where
-      go : (b : Bool) → p.found ≡ b → b ≡ some_row (λ j. same_line (line_at ls j) l) count
-      go true e = sym (seek-known _ count p.row x.first (x.met e))
-      go false e = sym (seek-unknown _ count p.row x.first (omega (arith, x.missed e)))
+pub says-told : (ls : List Line) (count : ℕ) (l : Line) (p : Option ℕ) → FirstAt (λ j. same_line (line_at ls j) l) count p → is_some p ≡ says_this ls count l
+unfolding says_this
+says-told ls count l None x = sym (seek-unknown _ count count x (omega arith))
+says-told ls count l (Some r) x = sym (seek-known _ count r x.1 x.0)
 
 module _ (ls : List Line) (count : ℕ) (l : Line) where
   pub lacks-none : is_node_line l ≡ true → false ≡ lacks_end ls count l
   lacks-none e = rw e refl
 
-  module _ (edge : is_node_line l ≡ false) (from : Line) (f : from ≡ from_line l) (p : Place) (x : FirstFound (λ j. same_line (line_at ls j) from) count p) where
-    pub lacks-from : p.found ≡ false → true ≡ lacks_end ls count l
+  module _ (edge : is_node_line l ≡ false) (from : Line) (f : from ≡ from_line l) (p : Option ℕ) (x : FirstAt (λ j. same_line (line_at ls j) from) count p) where
+    pub lacks-from : is_some p ≡ false → true ≡ lacks_end ls count l
     lacks-from h = let s = ap (says_this ls count) (sym f) ∙ sym (says-told ls count from p x) ∙ h in rw (edge, s) refl
 
-    pub lacks-to : p.found ≡ true → (to : Line) → to ≡ to_line l → (q : Place) → FirstFound (λ j. same_line (line_at ls j) to) count q → not q.found ≡ lacks_end ls count l
+    pub lacks-to : is_some p ≡ true → (to : Line) → to ≡ to_line l → (q : Option ℕ) → FirstAt (λ j. same_line (line_at ls j) to) count q → not (is_some q) ≡ lacks_end ls count l
     lacks-to h to g q y =
         let s = ap (says_this ls count) (sym f) ∙ sym (says-told ls count from p x) ∙ h in
         ap not (says-told ls count to q y) ∙ ap (λ (z : Line). not (says_this ls count z)) g ∙ rw (edge, s) refl

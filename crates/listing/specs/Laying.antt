@@ -1,6 +1,6 @@
 -- How the rows of a sheet are made of sorted lines: node lines stand in front, and a place in the order is a row's number.
 -- Assumes nothing.
-use Rattle.std.specs.Prelude.{ℕ, ◌+◌, ◌-◌, ◌*◌, ◌<◌, ◌≤◌, ◌≡◌, Bool, true, false, ◌||◌, List, [], ◌∷◌, ◌++◌, length, get_or, drop}
+use Rattle.std.specs.Prelude.{ℕ, Result, Ok, Err, ◌+◌, ◌-◌, ◌*◌, ◌<◌, ◌≤◌, ◌≡◌, Bool, true, false, ◌||◌, List, [], ◌∷◌, ◌++◌, length, get_or, drop}
 use Rattle.tables.specs.Key.{Key}
 use Rattle.sheet.specs.declared.Cells.{Cells}
 use Rattle.sheet.specs.declared.Half.{Half}
@@ -13,7 +13,8 @@ use Rattle.sheet.specs.Stored.{header_six}
 use Rattle.lines.specs.declared.Line.{Line}
 use Rattle.lines.specs.Naming.{kind_named, from_line, to_line, line_key}
 use Rattle.sorting.specs.Sorted.{most_sorted, four_at}
-use Rattle.listing.specs.declared.Listing.{Listing}
+use Rattle.sheet.specs.declared.fault.Fault.{Fault}
+use Rattle.sheet.specs.declared.fault.Fault.TheVariants.{RowCount, OutputShort}
 
 -- the line whose words are row i of a table
 abbrev pub line_of_row : List ℕ → ℕ → Line
@@ -74,10 +75,10 @@ abbrev pub too_many_rows : ℕ → ℕ → Bool
 too_many_rows n e = max_nodes below n || max_edges 1 below e
 
 -- the sheet of the lines in an order, n of them node lines: 4, then 25, or it is laid
-pub data ReadsGood (count : ℕ) (rows order out : List ℕ) : Listing → List ℕ → Type 0 where
-  too_long : most_sorted < count → ReadsGood count rows order out (record { number = 4; sheet = 0; row = 0; count = 0 }) out
-  too_many : (n : ℕ) → count ≤ most_sorted → PlaceIs (key_in rows order) (length order) first_edge n → too_many_rows n (count - n) ≡ true → ReadsGood count rows order out (record { number = 4; sheet = 0; row = 0; count = 0 }) out
+pub data ReadsGood (count : ℕ) (rows order out : List ℕ) : Result ℕ Fault → List ℕ → Type 0 where
+  too_long : most_sorted < count → ReadsGood count rows order out (Err RowCount) out
+  too_many : (n : ℕ) → count ≤ most_sorted → PlaceIs (key_in rows order) (length order) first_edge n → too_many_rows n (count - n) ≡ true → ReadsGood count rows order out (Err RowCount) out
   too_short : (n : ℕ) → count ≤ most_sorted → PlaceIs (key_in rows order) (length order) first_edge n → too_many_rows n (count - n) ≡ false → length out < sheet_words 1 n (count - n)
-      → ReadsGood count rows order out (record { number = 25; sheet = 0; row = 0; count = 0 }) out
+      → ReadsGood count rows order out (Err OutputShort) out
   laid : (n : ℕ) (out' : List ℕ) → count ≤ most_sorted → PlaceIs (key_in rows order) (length order) first_edge n → too_many_rows n (count - n) ≡ false → sheet_words 1 n (count - n) ≤ length out
-      → SheetLaid rows order n (count - n) out out' → ReadsGood count rows order out (record { number = 0; sheet = 0; row = 0; count = sheet_words 1 n (count - n) }) out'
+      → SheetLaid rows order n (count - n) out out' → ReadsGood count rows order out (Ok (sheet_words 1 n (count - n))) out'

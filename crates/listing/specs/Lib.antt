@@ -4,5 +4,6 @@ pub mod Meant
 pub mod Printed
 pub mod LineByLine
 pub mod Laying
+pub mod ListingTold
 pub mod Promises
 pub mod Reordered

@@ -1,9 +1,12 @@
 -- How a text is read line by line: what the inner functions give.
 -- Assumes nothing.
-use Rattle.std.specs.Prelude.{ℕ, suc, ◌*◌, ◌<◌, ◌≤◌, ◌≡◌, Bool, true, false, not, ◌&&◌, List, [], ◌∷◌, length, drop}
+use Rattle.std.specs.Prelude.{ℕ, suc, Option, Some, None, IfOk, ◌*◌, ◌<◌, ◌≤◌, ◌≡◌, Bool, true, false, not, ◌&&◌, List, [], ◌∷◌, length, drop}
 use Rattle.sheet.specs.Refusals.{◌is◌, ◌when◌otherwise◌, ◌or_else◌}
+use Rattle.sheet.specs.declared.fault.Fault.{Fault}
+use Rattle.sheet.specs.FaultNumbers.{fault_number}
 use Rattle.lines.specs.declared.Line.{Line}
 use Rattle.lines.specs.Naming.{is_node_line, from_line, to_line, within_itself, line_key}
+use Rattle.lines.specs.LineTold.{line_told}
 use Rattle.sorting.specs.Sorted.{most_sorted, four_at, Sorted}
 use Rattle.listing.specs.declared.FirstFault.{FirstFault}
 use Rattle.listing.specs.declared.Taken.{Taken}
@@ -31,18 +34,24 @@ pub record CameTo (text : List ℕ) (i at : ℕ) : Type 0 where
 pub record TakesLine (text : List ℕ) (at : ℕ) (r : Taken) : Type 0 where
   pub inside : r.next ≤ length text
   pub passed : at < r.next
-  pub says : lines_said (drop at text) ≡ r.line ∷ lines_said (drop r.next text)
+  pub good : IfOk r.line (λ l. l.fault ≡ 0)
+  pub says : lines_said (drop at text) ≡ line_told r.line ∷ lines_said (drop r.next text)
 
 -- a line's fault by itself: 40, 41 or 14
 unfoldable pub own_fault : Line → ℕ
 own_fault l = l.fault or_else (14 when within_itself l otherwise 0)
 
+-- a fault by its number, 0 where there is none
+abbrev pub fault_told : Option Fault → ℕ
+fault_told None = 0
+fault_told (Some f) = fault_number f
+
 -- the first line that has such a fault, or the end of the lines
 pub record LooksThrough (ls : List Line) (r : FirstFault) : Type 0 where
   pub inside : r.count ≤ length ls
   pub good : (i : ℕ) → i < r.count → own_fault (line_at ls i) ≡ 0
-  pub through : r.fault ≡ 0 → r.count ≡ length ls
-  pub stopped : (r.fault ≡ 0 → ⊥) → (r.count < length ls) × (r.fault ≡ own_fault (line_at ls r.count))
+  pub through : fault_told r.fault ≡ 0 → r.count ≡ length ls
+  pub stopped : (fault_told r.fault ≡ 0 → ⊥) → (r.count < length ls) × (fault_told r.fault ≡ own_fault (line_at ls r.count))
 
 -- the first lines stand in a table of rows of four words
 abbrev pub InTable : List Line → ℕ → List ℕ → Type 0

@@ -1,16 +1,16 @@
 // Writing a listing: a line for each row of a one-office sheet, nodes then edges, measured first and then written by the same loop.
 ghost use Rattle.std.specs.Prelude.{◌≡◌, ◌+◌, ◌*◌, ◌<◌, ◌≤◌};
-ghost use Rattle.sheet.specs.Accepted.{WellFormed};
 ghost use Rattle.sheet.specs.Limits.{max_nodes, most_edges};
 ghost use Rattle.sheet.specs.Refusals.{none, refuse};
-ghost use Rattle.sheet.specs.Rows.{header_of, edge_table, count_in};
+ghost use Rattle.sheet.specs.Rows.{header_of, count_in};
 ghost use Rattle.lines.specs.Nine.{line_text, line_room};
 ghost use Rattle.listing.specs.Printed.{line_of_edge, row_line, printed_lines, printed, joint_sheet, PutsIfRoom};
+ghost use Rattle.listing.specs.ListingTold.{listing_of, listing_by};
 ghost use Rattle.listing.specs.Promises.{GivesListing, WritesListing};
 
 use super::Listing;
 use lines::{LINE_ROOM, Line};
-use sheet::{APPLIES, Half, Header, Node};
+use sheet::{APPLIES, Fault, Half, Node, Refusal, Sheet};
 
 // The line of an edge row between two nodes.
 fn edge_line(kind: u32, from: Node, to: Node) -> Line
@@ -37,13 +37,13 @@ fn edge_line(kind: u32, from: Node, to: Node) -> Line
 }
 
 // The line of row i of a half.
-fn row_line(half: Half, sheet: &[u32], h: Header, i: usize) -> Line
-    requires { WellFormed sheet.now (edge_table sheet.now) h × (i < count_in half h) }
-    ensures { result ≡ row_line half sheet.now i }
+fn row_line(half: Half, sheet: &Sheet<'_>, i: usize) -> Line
+    requires { i < count_in half sheet.now.header }
+    ensures { result ≡ row_line half sheet.now.words.now i }
 {
     match half {
         Half::Nodes => {
-            let r = sheet::node_at(sheet, i);
+            let r = sheet.node(i);
             Line {
                 fault: 0,
                 form: r.class,
@@ -53,9 +53,9 @@ fn row_line(half: Half, sheet: &[u32], h: Header, i: usize) -> Line
             }
         }
         Half::Edges => {
-            let e = sheet::edge_of(sheet, h, i);
-            let a = sheet::node_at(sheet, e.from as usize);
-            let b = sheet::node_at(sheet, e.to as usize);
+            let e = sheet.edge(i);
+            let a = sheet.node(e.from as usize);
+            let b = sheet.node(e.to as usize);
             edge_line(e.kind, a, b)
         }
     }
@@ -69,85 +69,67 @@ fn put_behind(l: Line, out: &mut [u8], at: usize) -> usize
     let mut line = [0u8; LINE_ROOM];
     let n = lines::put_line(l, &mut line);
     let end = at + n;
-    if out.len() < end {
-        return end;
+    if end <= out.len() {
+        text::put_bytes(out, at, &line[..n]);
     }
-    text::put_bytes(out, at, &line[0..n])
+    end
 }
 
 // The lines of a half, likewise.
-fn put_rows(half: Half, sheet: &[u32], h: Header, out: &mut [u8], at: usize) -> usize
-    requires { WellFormed sheet.now (edge_table sheet.now) h × (at ≤ line_room * max_nodes) }
-    ensures { (result ≤ at + line_room * count_in half h) × PutsIfRoom out.old at (printed_lines (row_line half sheet.now) (count_in half h)) result out.new }
+fn put_rows(half: Half, sheet: &Sheet<'_>, out: &mut [u8], at: usize) -> usize
+    requires { at ≤ line_room * max_nodes }
+    ensures { (result ≤ at + line_room * count_in half sheet.now.header) × PutsIfRoom out.old at (printed_lines (row_line half sheet.now.words.now) (count_in half sheet.now.header)) result out.new }
 {
-    let n = sheet::count_in(half, h);
     let mut end = at;
-    let mut i: usize = 0;
-    while i < n {
-        end = put_behind(row_line(half, sheet, h, i), out, end);
-        i += 1;
+    for i in 0..sheet.count(half) {
+        end = put_behind(row_line(half, sheet, i), out, end);
     }
     end
 }
 
 // All the lines, at the front, if they fit; the result is how long they are.
-fn put_sheet(sheet: &[u32], h: Header, out: &mut [u8]) -> usize
-    requires { WellFormed sheet.now (edge_table sheet.now) h }
-    ensures { PutsIfRoom out.old 0 (printed sheet.now) result out.new }
+fn put_sheet(sheet: &Sheet<'_>, out: &mut [u8]) -> usize
+    ensures { PutsIfRoom out.old 0 (printed sheet.now.words.now) result out.new }
 {
-    let at = put_rows(Half::Nodes, sheet, h, out, 0);
-    put_rows(Half::Edges, sheet, h, out, at)
+    let at = put_rows(Half::Nodes, sheet, out, 0);
+    put_rows(Half::Edges, sheet, out, at)
 }
 
-// Nothing was written, for this.
-fn unwritten(number: u32, sheet: u32, row: u32) -> Listing
-    ensures { result ≡ record { number = number; sheet = sheet; row = row; count = 0 } }
+// Writes the lines of a sheet. They are first measured, in an empty text, as 25 writes nothing.
+fn write_lines(sheet: &Sheet<'_>, out: &mut [u8]) -> Result<usize, Fault>
+    ensures { GivesListing none (printed sheet.now.words.now) out.old (listing_by result) out.new }
 {
-    Listing {
-        number: number,
-        sheet: sheet,
-        row: row as usize,
-        count: 0,
-    }
-}
-
-// Writes the lines of a sheet that was checked. They are first measured, in a text too short for any of them, as 25 writes nothing.
-fn write_lines(sheet: &[u32], h: Header, out: &mut [u8]) -> Listing
-    requires { WellFormed sheet.now (edge_table sheet.now) h }
-    ensures { GivesListing none (printed sheet.now) out.old result out.new }
-{
-    let mut scrap = [0u8; 1];
-    let size = put_sheet(sheet, h, &mut scrap);
+    let size = put_sheet(sheet, &mut []);
     if out.len() < size {
-        return unwritten(25, 0, 0);
+        return Err(Fault::OutputShort);
     }
-    put_sheet(sheet, h, out);
-    Listing {
-        number: 0,
-        sheet: 0,
-        row: 0,
-        count: size,
-    }
+    put_sheet(sheet, out);
+    Ok(size)
 }
 
-// Writes a sheet that was checked: one of two offices is refused.
-fn write_checked(sheet: &[u32], h: Header, out: &mut [u8]) -> Listing
-    requires { WellFormed sheet.now (edge_table sheet.now) h }
-    ensures { GivesListing (refuse (joint_sheet (header_of sheet.now)) 1 0 none) (printed sheet.now) out.old result out.new }
+// Writes a sheet: one of two offices is refused.
+fn write_checked(sheet: &Sheet<'_>, out: &mut [u8]) -> Result<usize, Refusal>
+    ensures { GivesListing (refuse (joint_sheet (header_of sheet.now.words.now)) 1 0 none) (printed sheet.now.words.now) out.old (listing_of result) out.new }
 {
-    if h.offices != 1 {
-        return unwritten(28, 1, 0);
+    if sheet.header.offices != 1 {
+        return Err(Fault::NotOneOffice.at(1, 0));
     }
-    write_lines(sheet, h, out)
+    Ok(write_lines(sheet, out)?)
+}
+
+// Writes the sheet that words are, if they are one. It is lent where the check left it: a copy would cost C's entry more stack.
+fn try_write(words: &[u32], out: &mut [u8]) -> Result<usize, Refusal>
+    ensures { WritesListing words.now out.old (listing_of result) out.new }
+{
+    match &verdict::accept(1, words) {
+        Ok(sheet) => write_checked(sheet, out),
+        Err(refusal) => Err(*refusal),
+    }
 }
 
 // Writes any words as a listing: how many bytes in `count`.
 pub fn write_listing(sheet: &[u32], out: &mut [u8]) -> Listing
     ensures { WritesListing sheet.now out.old result out.new }
 {
-    let r = verdict::check(sheet);
-    if r.number != 0 {
-        return unwritten(r.number, r.sheet, r.row);
-    }
-    write_checked(sheet, sheet::header_of(sheet), out)
+    Listing::from(try_write(sheet, out))
 }

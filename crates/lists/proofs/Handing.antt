@@ -1,31 +1,25 @@
--- How what was found becomes the answer, and the answer of a question after the sheet's own refusal.
+-- How what was found becomes the answer of a question.
 -- Assumes nothing.
-use Prim.Native.Nat.{ℕ, ◌≤◌}
-use mathlib.Core.Path.{◌≡◌, refl, sym}
-use mathlib.Core.Bool.{true, true≢false}
+use Prim.Native.Nat.{ℕ}
+use mathlib.Core.Path.{refl}
 use mathlib.Core.List.{List}
-use lib.ListN.{length, take}
-use lib.Seq.{length-take-le}
-use Rattle.sheet.specs.Refusals as refusals
-use Rattle.sheet.specs.Refusals.{refuse}
+use lib.ListN.{length}
+use Rattle.std.specs.Prelude.{Result, Ok, Err}
+use Rattle.sheet.specs.declared.fault.Fault.{Fault}
+use Rattle.sheet.specs.FaultNumbers.{fault_number}
+use Rattle.sheet.specs.Refusals.{none}
 use Rattle.question.specs.declared.Answer.{Answer}
-use Rattle.question.specs.Replies.{Shows}
-use Rattle.question.proofs.Telling.{show-missing, show-short, show-written}
-use Rattle.reach.specs.declared.FoundWords.{FoundWords}
-use Rattle.reach.specs.Finds.{Finds, some, none}
-use Rattle.lists.specs.Handed.{Handed, missing, short, written}
+use Rattle.question.specs.declared.reply.Told.{Told}
+use Rattle.question.specs.Replies.{refused_by, tells, Shows}
+use Rattle.question.proofs.Telling.{show-short, show-written}
+use Rattle.lists.specs.Handed.{Handed, short, written}
 
--- what was found fits the list
-pub finds-room : {R : List ℕ → Type 0} {list : List ℕ} {w : FoundWords} → Finds R list w → w.found ≡ true → w.count ≤ length list
-finds-room (some n l r) h = l
-finds-room (none x) h = absurd (true≢false (sym h))
+-- what is told, or refused at place 0, 0
+abbrev pub handed_answer : Result Told Fault → Answer
+handed_answer (Ok t) = tells t.value t.count
+handed_answer (Err f) = refused_by (record { number = fault_number f; sheet = 0; row = 0 })
 
 -- what is handed over is shown
-pub handed-shows : {R : List ℕ → Type 0} {list : List ℕ} {w : FoundWords} {out : List ℕ} {a : Answer} {out' : List ℕ} → Finds R list w → Handed list w out a out' → Shows refusals.none R out a out'
-unfolding refuse
-handed-shows {R} {list} {w} {out} (some n m r) (missing e) = absurd (true≢false e)
-handed-shows {R} {list} {w} {out} (some n m r) (short h k) = show-short R out _ _ (take n list) n r (length-take-le n list m) k refl refl
-handed-shows {R} {list} {w} {out} (some n m r) (written h k) = show-written R out _ _ (take n list) n r (length-take-le n list m) k refl refl
-handed-shows {R} {list} {w} {out} (none x) (missing e) = show-missing R out _ _ x refl refl
-handed-shows {R} {list} {w} {out} (none x) (short h k) = absurd (true≢false (sym h))
-handed-shows {R} {list} {w} {out} (none x) (written h k) = absurd (true≢false (sym h))
+pub handed-shows : (R : List ℕ → Type 0) (found out : List ℕ) → R found → {r : Result Told Fault} {out' : List ℕ} → Handed found out r out' → Shows none R out (handed_answer r) out'
+handed-shows R found out x (short l) = show-short R out _ _ found (length found) x refl l refl refl
+handed-shows R found out x (written l) = show-written R out _ _ found (length found) x refl l refl refl

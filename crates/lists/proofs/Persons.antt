@@ -10,7 +10,6 @@ use lib.ListN.{length, get_or, set}
 use lib.Seq.{get_or-set_same, get_or-set_other}
 use Rattle.tables.specs.Key.{identity}
 use Rattle.sheet.specs.declared.Header.{Header}
-use Rattle.sheet.specs.declared.Place.{Place}
 use Rattle.sheet.specs.declared.Seat.{Seat}
 use Rattle.sheet.specs.Rows.{header_of, node_key_at}
 use Rattle.sheet.specs.Accepted.{WellFormed}
@@ -22,20 +21,19 @@ use Rattle.meaning.specs.Forms.{Rising}
 use Rattle.meaning.specs.Questions.{InCategory, PersonsInCategoryAre, PersonsWithGrantAre}
 use Rattle.meaning.proofs.Axioms.{a1-a2}
 use Rattle.walk.specs.declared.Walk.{Walk}
-use Rattle.question.specs.Asked.{stands, SoughtAt, known}
+use Rattle.question.specs.Asked.{stands, known}
 use Rattle.tables.proofs.Counts.{some-row}
 use Rattle.question.specs.Checked.{AtSeat}
 use Rattle.ask.proofs.Links.{walk_for}
 use Rattle.sheet.proofs.Forming.{words_of}
 use Rattle.question.proofs.Known.{found-class}
-use Rattle.reach.specs.declared.FoundWords.{FoundWords}
+use Rattle.std.specs.Prelude.{Option}
 use Rattle.reach.specs.Finds.{Finds}
 use Rattle.reach.specs.Reaching.{Tells, LeadsTo}
 use Rattle.lists.specs.Picked.{PersonLeads, PersonsReach, wanted, PickedNumber}
 use Rattle.reach.proofs.Collecting.{rising-map, finds-map}
 use Rattle.reach.proofs.Leading.{plain_row, category-of, category-leads, folio-of, folio-leads}
 use Rattle.reach.proofs.Marking.{some_number, number-some}
-use Rattle.lists.proofs.Picking.{known_by}
 use Rattle.reach.proofs.Rows.{SeenRow, seen-row}
 
 -- one more row's number tells
@@ -72,8 +70,8 @@ module _ (s t : List ℕ) (h : Header) (w : Walk) (to : ℕ) (m : List ℕ) (r :
       }
 
   -- the rows that were picked by the numbers are those that the walk leads from
-  pub led-found : {list : List ℕ} {w' : FoundWords} → Finds (Rising (PickedNumber s h.nodes office 1 true m)) list w' → Finds (Rising (PersonLeads s t h office w to)) list w'
-  led-found x = finds-map (λ ws. rising-map led picked) (λ ws. rising-map picked led) x
+  pub led-found : (list : List ℕ) (found : Option ℕ) → Finds (Rising (PickedNumber s h.nodes office 1 true m)) list found → Finds (Rising (PersonLeads s t h office w to)) list found
+  led-found list found x = finds-map list found (λ ws. rising-map led picked) (λ ws. rising-map picked led) x
 
 -- no known number is 0
 pub known_some : (s t : List ℕ) (h : Header) → WellFormed s t h → (office c n : ℕ) → known s false office c n ≡ true → n ≡ 0 → ⊥
@@ -83,15 +81,11 @@ known_some s t h f office c n e z =
     let l = subst (λ (x : Header). r.0 < x.nodes) (sym f.head) r.1 in
     (f.nodes.fit r.0 l).number ((found-class s false office c n r.0 r.2).1 ∙ z)
 
--- the row that a search found
-module _ (s t : List ℕ) (h : Header) (f : WellFormed s t h) (office c n : ℕ) (p : Place) (e : known s false office c n ≡ true) (x : SoughtAt s false office c n h.nodes p) where
-  pub found_in : p.row < h.nodes
-  found_in = (x.first (known_by s h office c n p f.head x ∙ e)).0
-
-  pub found-key : (c ≡ 3 → ⊥) → node_key_at s p.row ≡ identity c n 0
-  found-key z =
-      let a = found-class s false office c n p.row ((x.first (known_by s h office c n p f.head x ∙ e)).1.found found_in) in
-      plain_row s t h f p.row c found_in a.0 z ∙ ap (λ (y : ℕ). identity c y 0) a.1
+-- a row that stands
+pub found-key : (s t : List ℕ) (h : Header) → WellFormed s t h → (office c n i : ℕ) → i < h.nodes → stands s false office c n i ≡ true → (c ≡ 3 → ⊥) → node_key_at s i ≡ identity c n 0
+found-key s t h f office c n i l e z =
+    let a = found-class s false office c n i e in
+    plain_row s t h f i c l a.0 z ∙ ap (λ (y : ℕ). identity c y 0) a.1
 
 module _ (s t : List ℕ) (h : Header) (seat : Seat) (at : AtSeat s t h seat) (d to : ℕ) (inside : to < h.nodes) where
   abbrev f : WellFormed s t h
@@ -116,8 +110,8 @@ module _ (s t : List ℕ) (h : Header) (seat : Seat) (at : AtSeat s t h seat) (d
         let r = seen-row s t h f seat.office 1 p 0 (ends-seen s (words_of s t h f) seat.office 1 1 p 0 2 i.directly 0 i.member_of).0 in
         leading p r (category-leads s t h f seat d r.row to p c r.inside r.names inside is-category i)
 
-    pub persons-found : {list : List ℕ} {w' : FoundWords} → Finds (Rising (PersonLeads s t h seat.office w to)) list w' → Finds (PersonsInCategoryAre (seen_from s seat) c) list w'
-    persons-found x = finds-map (λ ws. rising-map into out) (λ ws. rising-map out into) x
+    pub persons-found : (list : List ℕ) (found : Option ℕ) → Finds (Rising (PersonLeads s t h seat.office w to)) list found → Finds (PersonsInCategoryAre (seen_from s seat) c) list found
+    persons-found list found x = finds-map list found (λ ws. rising-map into out) (λ ws. rising-map out into) x
 
   module _ (n : ℕ) (is-folio : node_key_at s to ≡ folio n) (some : d ≡ 0 → ⊥) where
     holds : (p : ℕ) → PersonLeads s t h seat.office w to p → HasPath (seen_from s seat) grant p d n
@@ -131,5 +125,5 @@ module _ (s t : List ℕ) (h : Header) (seat : Seat) (at : AtSeat s t h seat) (d
         let r = seen-row s t h f seat.office 1 p 0 (ends-seen s (words_of s t h f) seat.office 1 1 p 0 2 a.c 0 a.assigned).0 in
         leading p r (folio-leads s t h f seat grant d r.row to p d n r.inside r.names inside is-folio (λ z. refl) i)
 
-    pub holders-found : {list : List ℕ} {w' : FoundWords} → Finds (Rising (PersonLeads s t h seat.office w to)) list w' → Finds (PersonsWithGrantAre (seen_from s seat) d n) list w'
-    holders-found x = finds-map (λ ws. rising-map holds held) (λ ws. rising-map held holds) x
+    pub holders-found : (list : List ℕ) (found : Option ℕ) → Finds (Rising (PersonLeads s t h seat.office w to)) list found → Finds (PersonsWithGrantAre (seen_from s seat) d n) list found
+    holders-found list found x = finds-map list found (λ ws. rising-map holds held) (λ ws. rising-map held holds) x

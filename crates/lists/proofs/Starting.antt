@@ -1,7 +1,10 @@
 -- A walk from all persons' rows: what its numbers tell of each row.
 -- Assumes nothing.
 use Prim.Native.Nat.{ℕ}
-use mathlib.Core.Path.{◌≡◌}
+use mathlib.Core.Path.{◌≡◌, refl}
+use mathlib.Core.Bool.{Bool, true, false}
+use mir.Val.{bool_byte}
+use Rattle.tables.specs.Count.{number_of}
 use mathlib.Core.List.{List}
 use lib.Dec.{eqb}
 use lib.ListN.{length}
@@ -15,6 +18,11 @@ use Rattle.walk.specs.Arcs.{Steps}
 use Rattle.reach.specs.Reaching.{Started}
 use Rattle.lists.specs.Picked.{FromPersons, PersonsLead}
 use Rattle.reach.proofs.Marking.{starts-tell}
+
+-- a test as a number
+pub byte-number : (b : Bool) → bool_byte b ≡ number_of b
+byte-number true = refl
+byte-number false = refl
 
 -- ---- from the persons' rows
 

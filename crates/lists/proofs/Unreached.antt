@@ -25,7 +25,7 @@ use Rattle.walk.specs.declared.Walk.{Walk}
 use Rattle.question.specs.Checked.{AtSeat}
 use Rattle.ask.proofs.Links.{walk_for}
 use Rattle.sheet.proofs.Forming.{words_of}
-use Rattle.reach.specs.declared.FoundWords.{FoundWords}
+use Rattle.std.specs.Prelude.{Option}
 use Rattle.reach.specs.Finds.{Finds}
 use Rattle.lists.specs.Picked.{FromPersons, PersonsLead, wanted, PickedNumber}
 use Rattle.reach.proofs.Collecting.{rising-map, finds-map}
@@ -86,5 +86,5 @@ module _ (s t : List ℕ) (h : Header) (seat : Seat) (at : AtSeat s t h seat) (d
               let q = leads-path m.row n m.names ((r.each m.row m.inside).yes (λ z. let e = v.1 in omega arith)) in
               absurd (u.1 q.0 q.1 q.2)
 
-  pub unreached-found : {list : List ℕ} {w' : FoundWords} → Finds (Rising (PickedNumber s h.nodes seat.office 4 false d)) list w' → Finds (FoliosOutOfReachAre g) list w'
-  unreached-found x = finds-map (λ ws. rising-map into out) (λ ws. rising-map out into) x
+  pub unreached-found : (list : List ℕ) (found : Option ℕ) → Finds (Rising (PickedNumber s h.nodes seat.office 4 false d)) list found → Finds (FoliosOutOfReachAre g) list found
+  unreached-found list found x = finds-map list found (λ ws. rising-map into out) (λ ws. rising-map out into) x

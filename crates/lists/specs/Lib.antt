@@ -1,4 +1,5 @@
 pub mod Sought
 pub mod Picked
+pub mod ListWalks
 pub mod Handed
 pub mod Promises

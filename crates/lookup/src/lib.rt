@@ -1,59 +1,53 @@
 // Looking an identity up in two sheets at once: its row as it stands in the first that has it, and why there is none.
 #![tactic(auto)]
 
-ghost use Rattle.std.specs.Prelude.{◌≡◌};
+ghost use Rattle.std.specs.Prelude.{◌≡◌, ◌+◌, ◌≤◌, length};
 ghost use Rattle.tables.specs.Key.{identity};
+ghost use Rattle.sheet.specs.Limits.{max_nodes, node_words, edges_from};
 ghost use Rattle.sheet.specs.Parts.{lent};
-ghost use Rattle.sheet.specs.Rows.{header_of, node_key_at, row_key};
-ghost use Rattle.sheet.specs.Accepted.{Accepted};
-ghost use Rattle.sheet.specs.Found.{FoundIs};
-ghost use Rattle.lookup.specs.Looked.{neither, look_fault, LooksUp, PlacesIdentity};
+ghost use Rattle.sheet.specs.Rows.{row_key};
+ghost use Rattle.question.specs.Replies.{tells};
+ghost use Rattle.lookup.specs.Looked.{look_fault, row_part, LooksUp, PlacesIdentity};
+ghost use Rattle.lookup.specs.Standing.{StandsAt, FindsRow};
 
-use question::Answer;
-use sheet::{Cells, Half, Place, Refusal};
+mod standing;
 
-// Where an identity's row stands in a sheet, or would stand.
-fn find_identity(sheet: &[u32], wanted: Cells) -> Place
-    requires { Accepted sheet.now }
-    ensures { FoundIs (node_key_at sheet.now) (header_of sheet.now).nodes (row_key wanted) result }
+use question::{Answer, Told};
+use sheet::{Cells, Fault, HEADER_WORDS, Half, NODE_WORDS, Refusal, Sheet};
+use standing::Standing;
+
+// Where an identity's row stands: in the first of two sheets that has it.
+fn stand(one: &Sheet<'_>, other: &Sheet<'_>, wanted: Cells) -> Option<Standing>
+    ensures { StandsAt one.now.words.now other.now.words.now (row_key wanted) result }
 {
-    let h = sheet::header_of(sheet);
-    sheet::find_row(Half::Nodes, sheet, h, wanted)
+    if let Ok(row) = one.find(Half::Nodes, wanted) {
+        return Some(Standing::First(row));
+    }
+    match other.find(Half::Nodes, wanted) {
+        Ok(row) => Some(Standing::Second(row)),
+        Err(_) => None,
+    }
 }
 
-// 32 where neither sheet has the identity.
-fn missing_in(first: &[u32], second: &[u32], wanted: Cells) -> u32
-    requires { Accepted first.now × Accepted second.now }
-    ensures { result ≡ neither first.now second.now (row_key wanted) }
+// Where an identity's row stands in two sheets, or what refuses the lookup.
+fn standing_of(first: &[u32], second: &[u32], wanted: Cells) -> Result<Standing, Refusal>
+    ensures { FindsRow first.now second.now (row_key wanted) result }
 {
-    let here = find_identity(first, wanted);
-    if here.found {
-        return 0;
+    let one = verdict::accept(1, first)?;
+    let other = verdict::accept(2, second)?;
+    match stand(&one, &other, wanted) {
+        Some(standing) => Ok(standing),
+        None => Err(Fault::NoIdentity.into()),
     }
-    let there = find_identity(second, wanted);
-    if there.found {
-        return 0;
-    }
-    32
 }
 
-// What is refused of a lookup.
-fn look_fault(first: &[u32], second: &[u32], wanted: Cells) -> Refusal
-    ensures { result ≡ look_fault first.now second.now (row_key wanted) }
+// The four words of a node row, where they stand.
+fn row_part<'a>(words: &'a [u32], row: usize) -> &'a [u32]
+    requires { edges_from row + node_words ≤ length words.now }
+    ensures { lent result ≡ row_part (lent words.entry) row }
 {
-    let r = verdict::check_as(1, first);
-    if r.number != 0 {
-        return r;
-    }
-    let s = verdict::check_as(2, second);
-    if s.number != 0 {
-        return s;
-    }
-    Refusal {
-        number: missing_in(first, second, wanted),
-        sheet: 0,
-        row: 0,
-    }
+    let from = HEADER_WORDS + NODE_WORDS * row;
+    &words[from..from + NODE_WORDS]
 }
 
 // The row of an identity as it stands in the first of two sheets that has it; the empty part where that is refused.
@@ -66,38 +60,33 @@ pub fn look_up<'a>(
 ) -> &'a [u32]
     ensures { LooksUp (lent first.entry) (lent second.entry) (identity class number variant) (lent result) }
 {
-    let wanted = sheet::named(class, number, variant);
-    let r = look_fault(first, second, wanted);
-    if r.number != 0 {
-        return &first[0..0];
+    match standing_of(first, second, sheet::named(class, number, variant)) {
+        Ok(Standing::First(row)) => row_part(first, row),
+        Ok(Standing::Second(row)) => row_part(second, row),
+        Err(_) => &first[..0],
     }
-    let one = find_identity(first, wanted);
-    if one.found {
-        let i = sheet::HEADER_WORDS + sheet::NODE_WORDS * one.row;
-        let e = i + sheet::NODE_WORDS;
-        return &first[i..e];
-    }
-    let other = find_identity(second, wanted);
-    let j = sheet::HEADER_WORDS + sheet::NODE_WORDS * other.row;
-    let f = j + sheet::NODE_WORDS;
-    &second[j..f]
+}
+
+// A node row of the first sheet or the second, as an answer.
+fn told_in(sheet: u32, row: usize) -> Answer
+    requires { row ≤ max_nodes }
+    ensures { result ≡ tells sheet row }
+{
+    Answer::from(Told {
+        value: sheet,
+        count: row as u32,
+    })
 }
 
 // Where the row stands that a lookup gives: the sheet, 1 or 2, in `value`, and its node row in `count`.
 pub fn look_up_place(first: &[u32], second: &[u32], class: u32, number: u32, variant: u32) -> Answer
     ensures { PlacesIdentity first.now second.now (identity class number variant) result }
 {
-    let wanted = sheet::named(class, number, variant);
-    let r = look_fault(first, second, wanted);
-    if r.number != 0 {
-        return question::refused(r);
+    match standing_of(first, second, sheet::named(class, number, variant)) {
+        Ok(Standing::First(row)) => told_in(1, row),
+        Ok(Standing::Second(row)) => told_in(2, row),
+        Err(refusal) => refusal.into(),
     }
-    let near = find_identity(first, wanted);
-    if near.found {
-        return question::told(1, near.row as u32);
-    }
-    let far = find_identity(second, wanted);
-    question::told(2, far.row as u32)
 }
 
 // The number and place of what a lookup with the same arguments is refused by; 0 throughout where the identity is found.
@@ -110,6 +99,8 @@ pub fn look_up_refusal(
 ) -> Refusal
     ensures { result ≡ look_fault first.now second.now (identity class number variant) }
 {
-    let wanted = sheet::named(class, number, variant);
-    look_fault(first, second, wanted)
+    match standing_of(first, second, sheet::named(class, number, variant)) {
+        Ok(_) => Refusal::default(),
+        Err(refusal) => refusal,
+    }
 }

@@ -1,15 +1,19 @@
 -- What a question promises, by the document's number of it.
 -- Assumes nothing.
-use Rattle.std.specs.Prelude.{ℕ, ◌≡◌, List}
+use Rattle.std.specs.Prelude.{ℕ, ◌≡◌, Bool, true, false, List}
 use Rattle.sheet.specs.Refusals.{◌is◌}
 use Rattle.question.specs.declared.Question.{Question}
 use Rattle.question.specs.declared.Answer.{Answer}
 use Rattle.question.specs.Asked.{after_sheet}
 use Rattle.ask.specs.Promises.{AnswersAtOffice, AnswersJointly, Witnesses}
-use Rattle.lists.specs.Sought.{chosen}
 use Rattle.lists.specs.Promises.{ListsPersonsInCategory, ListsPersonsWithGrant, ListsFoliosOutOfReach, ShowsLeastTriple, ShowsLeastHolder, ListsRedundantEdges}
 use Rattle.opened.specs.declared.Which.{Which}
 use Rattle.opened.specs.declared.Which.TheVariants.{AnswerAtOffice, JointAnswer, Witness, PersonsInCategory, PersonsWithGrant, FoliosOutOfReach, LeastTriple, LeastHolder, RedundantEdges}
+
+-- a choice by a test
+abbrev pub chosen : {A : Type 1} → Bool → A → A → A
+chosen true a b = a
+chosen false a b = b
 
 -- the document's number of each question
 unfoldable pub question_of : Which → ℕ

@@ -35,13 +35,11 @@ pub enum Which {
 fn word_or_zero(words: &[u32], i: usize) -> u32
     ensures { result ≡ word words.now i }
 {
-    if i < words.len() {
-        return words[i];
-    }
-    0
+    words.get(i).copied().unwrap_or(0)
 }
 
 // The header that the words begin with; 0 for each word that is not there.
+#[tactic(auto, unfolding(sheet::specs::Rows::header_of))]
 fn header_named(words: &[u32]) -> Header
     ensures { result ≡ header_of words.now }
 {
@@ -56,6 +54,7 @@ fn header_named(words: &[u32]) -> Header
 }
 
 // A question of bare words. Questions 1 and 2 leave the output as it was.
+#[tactic(auto, unfolding(crate::specs::Asking::question_of, crate::specs::Asking::Promised))]
 fn ask_words(sheet: &[u32], which: Which, q: Question, out: &mut [u32]) -> Answer
     ensures { Promised (question_of which) sheet.now q out.old result out.new }
 {
@@ -73,7 +72,7 @@ fn ask_words(sheet: &[u32], which: Which, q: Question, out: &mut [u32]) -> Answe
 }
 
 // Opens a sheet. Nothing is refused, and nothing is checked: each question does that.
-pub fn open<'a>(words: &'a [u32]) -> Opened<'a>
+pub fn open(words: &[u32]) -> Opened<'_>
     ensures { (result.words ≡ words.entry) × (result.nodes ≡ (header_of words.now).nodes) × (result.edges ≡ (header_of words.now).edges) }
 {
     let h = header_named(words);
@@ -84,7 +83,7 @@ pub fn open<'a>(words: &'a [u32]) -> Opened<'a>
     }
 }
 
-impl<'a> Opened<'a> {
+impl Opened<'_> {
     // Any question but question 4: what the bare words answer, whatever the counts say.
     pub fn ask(self, which: Which, q: Question, out: &mut [u32]) -> Answer
         ensures { Promised (question_of which) self.entry.words.now q out.old result out.new }

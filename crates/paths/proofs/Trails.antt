@@ -27,11 +27,11 @@ module _ (R : ℕ → ℕ → Type 0) (T : ℕ → Type 0) where
   counted (goes st w) = let p = counted w in (suc p.0, then p.1 st, ap suc p.2)
 
   -- two paths whose first nodes are in order
-  lower : {a b : ℕ} {l l' : List ℕ} → a < b → Trail R T a l → Trail R T b l' → Before l l'
-  lower h (ends t) (ends t') = less h
-  lower h (ends t) (goes st' w') = less h
-  lower h (goes st w) (ends t') = less h
-  lower h (goes st w) (goes st' w') = less h
+  trail-lower : {a b : ℕ} {l l' : List ℕ} → a < b → Trail R T a l → Trail R T b l' → Before l l'
+  trail-lower h (ends t) (ends t') = less h
+  trail-lower h (ends t) (goes st' w') = less h
+  trail-lower h (goes st w) (ends t') = less h
+  trail-lower h (goes st w) (goes st' w') = less h
 
   module _ (d : List ℕ) (y : Layers (λ a b. R b a) T d) where
     pub numbered : {a : ℕ} {l : List ℕ} → Trail R T a l → (0 < get_or d a 0) × (get_or d a 0 ≤ length l)
@@ -87,7 +87,7 @@ module _ (R : ℕ → ℕ → Type 0) (T : ℕ → Type 0) where
               let q = long st' w in
               same (⊎_elim
               (λ k. be.first l'' (rw (← k) at w) (omega arith))
-              (λ h. lower h be.leads w)
+              (λ h. trail-lower h be.leads w)
               (eq-or-lt_of_le (low b' st' (omega (arith, q.0, q.1, sized be)))))
 
 -- one node more is written after those that stand there

@@ -1,24 +1,23 @@
 -- Rows of one type and number are neighbours: none stands before the place of the two, and none behind the first row from there that has others.
 -- Assumes nothing.
 use Prim.Native.Nat.{ℕ, ◌<◌, ◌≤◌}
-use mathlib.Core.Path.{◌≡◌, refl, sym, ap₂, subst, ◌∙◌}
+use mathlib.Core.Path.{◌≡◌, refl, sym, ap, subst, ◌∙◌}
 use mathlib.Core.Bool.{Bool, true, false, not, ◌||◌, true≢false}
 use mathlib.Core.List.{List, [], ◌∷◌}
 use native.Mathlib.Omega.{arith}
 use native.Mathlib.Decide.{dec_lt}
 use borrow.Author.Tests.{eq-eqb}
 use lib.Dec.{eqb}
-use Rattle.tables.specs.Count.{FirstStanding}
+use Rattle.std.specs.Prelude.{Result, Ok, Err}
 use Rattle.tables.specs.Key.{identity, below_key}
 use Rattle.tables.proofs.Keys.{Ahead, first, rest, ahead, behind, rises}
 use Rattle.tables.proofs.Counts.{some-none, seek-known, first-standing-one}
 use Rattle.sheet.specs.declared.Node.{Node}
-use Rattle.sheet.specs.declared.Place.{Place}
 use Rattle.sheet.specs.Accepted.{RowsRise}
-use Rattle.sheet.specs.Found.{PlaceIs}
+use Rattle.sheet.specs.Found.{PlaceIs, row_told}
 use Rattle.sheet.specs.Rows.{node_at, node_key_at}
 use Rattle.sheet.proofs.Places.{place-one}
-use Rattle.question.specs.Asked.{stands, SoughtAt}
+use Rattle.question.specs.Asked.{stands, SoughtIn}
 use Rattle.question.proofs.Known.{found-class}
 
 -- no key of a type and number is lower than theirs without a variant
@@ -80,39 +79,33 @@ module _ (s : List ℕ) (any : Bool) (office class number : ℕ) where
               let (a, b) = same-two (node_at s k).class (node_at s k).number (node_at s k).variant class number v (p.after k from h) q in
               other a b
 
-      -- the search ends here, and nothing stands
-      pub ended : ((j : ℕ) → j < k → stands s any office class number j ≡ false) → SoughtAt s any office class number n (record { found = false; row = i })
-      ended before = record { told = sym (some-none _ n (λ j l. go j l (dec_lt j k))); first = λ e. absurd (true≢false (sym e)); place = λ e. p }
-        where
-          go : (j : ℕ) → j < n → Dec (j < k) → stands s any office class number j ≡ false
-          go j l (yes x) = before j x
-          go j l (no x) = none-behind j (omega arith) l
+-- ---- what a search tells
 
+module _ (s : List ℕ) (any : Bool) (office class number n : ℕ) where
+  pub search-met : (k : ℕ) → k < n → ((j : ℕ) → j < k → stands s any office class number j ≡ false) → stands s any office class number k ≡ true → SoughtIn s any office class number n (Ok k)
+  search-met k h before e = (h, record { most = omega arith; before = before; found = λ l. e })
+
+  module _ (i : ℕ) (p : PlaceIs (node_key_at s) n (identity class number 0) i) (k : ℕ) (before : (j : ℕ) → j < k → stands s any office class number j ≡ false) where
     -- all rows were passed
-    pub passed-all : (k : ℕ) → n ≤ k → ((j : ℕ) → j < k → stands s any office class number j ≡ false) → SoughtAt s any office class number n (record { found = false; row = i })
-    passed-all k h before = record { told = sym (some-none _ n (λ j l. before j (omega arith))); first = λ e. absurd (true≢false (sym e)); place = λ e. p }
+    pub search-passed : n ≤ k → SoughtIn s any office class number n (Err i)
+    search-passed h = (some-none _ n (λ j l. before j (omega arith)), p)
 
-  -- a row that stands, and none before it
-  pub met_at : (n k : ℕ) → k < n → ((j : ℕ) → j < k → stands s any office class number j ≡ false) → stands s any office class number k ≡ true → SoughtAt s any office class number n (record { found = true; row = k })
-  met_at n k h before e =
-      let x : FirstStanding (stands s any office class number) n k = record { most = omega arith; before = before; found = λ l. e } in
-      record { told = sym (seek-known _ n k x h); first = λ d. (h, x); place = λ d. absurd (true≢false d) }
+    -- the search ends here, and nothing stands
+    pub search-left : RowsRise (node_key_at s) n → i ≤ k → k < n → ((node_at s k).class ≡ class → (node_at s k).number ≡ number → ⊥) → SoughtIn s any office class number n (Err i)
+    search-left up from h other = (some-none _ n (λ j l. go j l (dec_lt j k)), p)
+      where
+        go : (j : ℕ) → j < n → Dec (j < k) → stands s any office class number j ≡ false
+        go j l (yes x) = before j x
+        go j l (no x) = none-behind s any office class number n i p up k from h other j (omega arith) l
 
   -- wherever it ends, a search tells a row or the end of them
-  pub sought-in : (n : ℕ) (p : Place) → SoughtAt s any office class number n p → p.row ≤ n
-  sought-in n p x = go p.found refl
-    where
-      go : (b : Bool) → p.found ≡ b → p.row ≤ n
-      go true e = omega (arith, (x.first e).0)
-      go false e = (x.place e).inside
+  pub search-inside : (r : Result ℕ ℕ) → SoughtIn s any office class number n r → row_told r ≤ n
+  search-inside (Ok i) x = omega (arith, x.0)
+  search-inside (Err i) x = x.1.inside
 
   -- any two results of a search are equal
-  pub sought-one : (n : ℕ) → RowsRise (node_key_at s) n → (p q : Place) → SoughtAt s any office class number n p → SoughtAt s any office class number n q → p ≡ q
-  sought-one n up p q x y = ap₂ (λ (a : Bool) (i : ℕ). place-with a i) (x.told ∙ sym y.told) (go p.found refl)
-    where
-      place-with : Bool → ℕ → Place
-      place-with a i = record { found = a; row = i }
-
-      go : (b : Bool) → p.found ≡ b → p.row ≡ q.row
-      go true e = first-standing-one _ n _ _ (x.first e).1 (y.first (y.told ∙ sym x.told ∙ e)).1
-      go false e = place-one (node_key_at s) n up (identity class number 0) _ _ (x.place e) (y.place (y.told ∙ sym x.told ∙ e))
+  pub search-one : RowsRise (node_key_at s) n → (r q : Result ℕ ℕ) → SoughtIn s any office class number n r → SoughtIn s any office class number n q → r ≡ q
+  search-one up (Ok i) (Ok j) x y = ap Ok (first-standing-one _ n _ _ x.1 y.1)
+  search-one up (Ok i) (Err j) x y = absurd (true≢false (sym (seek-known _ n i x.1 x.0) ∙ y.0))
+  search-one up (Err i) (Ok j) x y = absurd (true≢false (sym (seek-known _ n j y.1 y.0) ∙ x.0))
+  search-one up (Err i) (Err j) x y = ap Err (place-one (node_key_at s) n up (identity class number 0) _ _ x.1 y.1)

@@ -1,6 +1,6 @@
 -- What questions 1 to 4 refuse, in the table's order.
 -- Assumes nothing.
-use Rattle.std.specs.Prelude.{ℕ, zero, suc, ◌<◌, ◌≡◌, Bool, true, false, not, ◌&&◌, ◌||◌, List}
+use Rattle.std.specs.Prelude.{ℕ, zero, suc, ◌<◌, ◌≡◌, Bool, true, false, not, ◌&&◌, ◌||◌, List, Result, Ok, Err}
 use Rattle.tables.specs.Count.{some_row, FirstStanding}
 use Rattle.tables.specs.Key.{identity}
 use Rattle.tables.specs.Marks.{marked}
@@ -9,7 +9,6 @@ use Rattle.sheet.specs.Kinds.{person_type, deed_type, folio_type}
 use Rattle.sheet.specs.declared.Refusal.{Refusal}
 use Rattle.sheet.specs.declared.Header.{Header}
 use Rattle.sheet.specs.declared.Seat.{Seat}
-use Rattle.sheet.specs.declared.Place.{Place}
 use Rattle.sheet.specs.Found.{PlaceIs}
 use Rattle.sheet.specs.Refusals.{◌is◌, ◌below◌, ◌when◌otherwise◌, ◌or_else◌, none, refuse, ◌then◌}
 use Rattle.sheet.specs.Rows.{header_of, node_at, node_key_at}
@@ -36,11 +35,10 @@ asked s q = seen_from s (seat_for q)
 unfoldable pub stands : List ℕ → Bool → ℕ → ℕ → ℕ → ℕ → Bool
 stands s any office class number i = (node_at s i).class is class && ((node_at s i).number is number && (any || marked (node_at s i).offices office))
 
--- of n node rows, what a search tells: whether one stands, and the first that does, or else the place of the type and the number without a variant
-pub record SoughtAt (s : List ℕ) (any : Bool) (office class number n : ℕ) (p : Place) : Type 0 where
-  pub told : p.found ≡ some_row (stands s any office class number) n
-  pub first : p.found ≡ true → (p.row < n) × FirstStanding (stands s any office class number) n p.row
-  pub place : p.found ≡ false → PlaceIs (node_key_at s) n (identity class number 0) p.row
+-- of n node rows, what a search tells: the first that stands, or, where none does, the place of the type and the number without a variant
+abbrev pub SoughtIn : List ℕ → Bool → ℕ → ℕ → ℕ → ℕ → Result ℕ ℕ → Type 0
+SoughtIn s any office class number n (Ok i) = (i < n) × FirstStanding (stands s any office class number) n i
+SoughtIn s any office class number n (Err i) = (some_row (stands s any office class number) n ≡ false) × PlaceIs (node_key_at s) n (identity class number 0) i
 
 -- there is a row of this type and number marked with the office; or, for a joint answer, with any office
 unfoldable pub known : List ℕ → Bool → ℕ → ℕ → ℕ → Bool

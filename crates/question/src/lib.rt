@@ -1,25 +1,27 @@
 // What a question is, what it is refused by for its office and identities, and what every reply is made of.
 #![tactic(auto)]
 
-ghost use Rattle.std.specs.Prelude.{◌≡◌, ◌&&◌, ◌||◌, ◌^◌, ◌<◌, ◌≤◌};
+ghost use Rattle.std.specs.Prelude.{◌≡◌, IfOk, IfErr, ◌&&◌, ◌||◌, ◌^◌, ◌<◌, ◌≤◌};
 ghost use Rattle.sheet.specs.Limits.{max_offices};
 ghost use Rattle.sheet.specs.Refusals.{◌is◌};
 ghost use Rattle.tables.specs.Marks.{marked};
 ghost use Rattle.sheet.specs.Accepted.{NodesFormed};
 ghost use Rattle.sheet.specs.Seats.{seat_at, Seated};
-ghost use Rattle.meaning.specs.Paths.{right_kind};
-ghost use Rattle.question.specs.Asked.{SoughtAt, bad_office, side_of};
+ghost use Rattle.sheet.specs.FaultNumbers.{fault_number, number_in};
+ghost use Rattle.question.specs.Asked.{SoughtIn, bad_office};
 ghost use Rattle.question.specs.Replies.{refused_by, tells};
 
-use sheet::{BAN, GRANT, Half, Header, Node, Place, Refusal, Seat};
+mod asks;
+mod office;
+mod reply;
 
-// What a question's kind asks for: grants, or bans, which any other number asks for too.
-pub const OF_GRANTS: u32 = 0;
-
-pub const OF_BANS: u32 = 1;
+pub use asks::Asks;
+pub use office::OfficeSheet;
+pub use reply::Told;
+use sheet::{Fault, Half, Header, Node, Refusal, Seat, Sheet};
 
 // What is asked. Each question looks at the numbers that it names: office or rule, kind, and `other` where it names two deeds.
-#[derive(Clone, Copy)]
+#[derive(Clone, Copy, Default)]
 pub struct Question {
     pub office: u32,
     pub rule: u32,
@@ -32,53 +34,15 @@ pub struct Question {
 }
 
 // A refusal's number and place, or number 0 with what the question tells.
+// Stays: a number that is 0 for none, since C takes this struct. Inside, it is a `Result<Told, Refusal>`.
 #[repr(C)]
-#[derive(Clone, Copy)]
+#[derive(Clone, Copy, Default)]
 pub struct Answer {
     pub number: u32,
     pub sheet: u32,
     pub row: u32,
     pub value: u32,
     pub count: u32,
-}
-
-// Whether a node row has the type and the number, and the mark of the seat's office, or any where `any` says so.
-fn is_standing(r: Node, any: bool, seat: Seat, class: u32, number: u32) -> bool
-    requires { Seated seat }
-    ensures { result ≡ ((r.class is class) && ((r.number is number) && (any || marked r.offices seat.office))) }
-{
-    let marked = sheet::bears(seat, r.offices);
-    (r.class == class) & ((r.number == number) & (any | marked))
-}
-
-// The first node row of the type and the number that the seat's office has, or any office where `any` says so; else where variant 0 would stand.
-pub fn seek(sheet: &[u32], h: Header, any: bool, seat: Seat, class: u32, number: u32) -> Place
-    requires { NodesFormed sheet.now h × Seated seat }
-    ensures { SoughtAt sheet.now any seat.office class number h.nodes result }
-{
-    let place = sheet::place_of(Half::Nodes, sheet, h, sheet::named(class, number, 0));
-    let n = h.nodes as usize;
-    let mut i = place;
-    while i < n {
-        let r = sheet::node_at(sheet, i);
-        if is_standing(r, any, seat, class, number) {
-            return Place {
-                found: true,
-                row: i,
-            };
-        }
-        if (r.class != class) | (r.number != number) {
-            return Place {
-                found: false,
-                row: place,
-            };
-        }
-        i += 1;
-    }
-    Place {
-        found: false,
-        row: place,
-    }
 }
 
 // The mark of office k + 1.
@@ -94,64 +58,72 @@ pub fn seat_at(office: u32) -> Seat
     requires { (0 < office) × (office ≤ max_offices) }
     ensures { (result ≡ seat_at office) × Seated result }
 {
-    Seat {
-        office: office,
-        mark: mark_of(office - 1),
-    }
+    let mark = mark_of(office - 1);
+    Seat { office, mark }
 }
 
-// 20 where there is no such office.
-pub fn bad_office(h: Header, office: u32) -> u32
-    ensures { result ≡ bad_office h office }
+// 20 where there is no such office under a header.
+pub fn bad_office(h: Header, office: u32) -> Result<(), Fault>
+    ensures { number_in result ≡ bad_office h office }
 {
     if (office < 1) | (h.offices < office) {
-        return 20;
+        return Err(Fault::NoOffice);
     }
-    0
+    Ok(())
 }
 
-// The kind of the edges that give a side's right: 3 for a grant, 4 for a ban.
-pub fn right_of(kind: u32) -> u32
-    ensures { result ≡ right_kind (side_of kind) }
+// What every question of an office begins with: the sheet at the office's seat, or 20 where there is no such office.
+pub fn take_seat<'a>(sheet: &Sheet<'a>, office: u32) -> Result<OfficeSheet<'a>, Fault>
+    ensures ok { IfOk result (λ o. (o.sheet ≡ sheet.now) × (o.seat ≡ seat_at office) × (bad_office sheet.now.header office ≡ 0)) }
+    ensures err { IfErr result (λ f. fault_number f ≡ bad_office sheet.now.header office) }
 {
-    if kind == OF_GRANTS { GRANT } else { BAN }
+    bad_office(sheet.header, office)?;
+    Ok(OfficeSheet {
+        sheet: *sheet,
+        seat: seat_at(office),
+    })
 }
 
-// A refusal as an answer.
-pub fn refused(r: Refusal) -> Answer
-    ensures { result ≡ refused_by r }
+// Whether a node row has the type and the number, and the mark of the seat's office, or any where `any` says so.
+fn is_standing(node: Node, any: bool, seat: Seat, class: u32, number: u32) -> bool
+    requires { Seated seat }
+    ensures { result ≡ ((node.class is class) && ((node.number is number) && (any || marked node.offices seat.office))) }
 {
-    Answer {
-        number: r.number,
-        sheet: r.sheet,
-        row: r.row,
-        value: 0,
-        count: 0,
-    }
+    (node.class == class) & ((node.number == number) & (any | sheet::bears(seat, node.offices)))
 }
 
-// A refusal at place 0, 0 as an answer.
-pub fn refused_by(number: u32) -> Answer
-    ensures { result ≡ refused_by (record { number = number; sheet = 0; row = 0 }) }
+// Where the first node row of a type and number stands that the seat's office has, or any office where `any` says so; else where variant 0 would
+// stand.
+// Stays: words, header and seat apart, since it promises its result where no more than the node rows are formed; and `any` is a word, as it
+// is in `known`, by which this is stated: with a function for each there would be twins.
+pub fn seek(
+    sheet: &[u32],
+    h: Header,
+    any: bool,
+    seat: Seat,
+    class: u32,
+    number: u32,
+) -> Result<usize, usize>
+    requires { NodesFormed sheet.now h × Seated seat }
+    ensures { SoughtIn sheet.now any seat.office class number h.nodes result }
 {
-    Answer {
-        number: number,
-        sheet: 0,
-        row: 0,
-        value: 0,
-        count: 0,
+    let wanted = sheet::named(class, number, 0);
+    let place = sheet::place_of(Half::Nodes, sheet, h, wanted);
+    for i in place..h.nodes as usize {
+        let node = sheet::node_at(sheet, i);
+        if is_standing(node, any, seat, class, number) {
+            return Ok(i);
+        }
+        if (node.class != class) | (node.number != number) {
+            return Err(place);
+        }
     }
+    Err(place)
 }
 
-// What a question tells, as an answer.
-pub fn told(value: u32, count: u32) -> Answer
-    ensures { result ≡ tells value count }
+// The same of an office's sheet.
+pub fn search(at: &OfficeSheet<'_>, any: bool, class: u32, number: u32) -> Result<usize, usize>
+    ensures { SoughtIn at.now.sheet.words.now any at.now.seat.office class number at.now.sheet.header.nodes result }
 {
-    Answer {
-        number: 0,
-        sheet: 0,
-        row: 0,
-        value: value,
-        count: count,
-    }
+    seek(at.sheet.words, at.sheet.header, any, at.seat, class, number)
 }

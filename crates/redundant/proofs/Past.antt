@@ -1,5 +1,6 @@
 -- The other steps of a side's walk lead from a row's one end to the other exactly if something else leads there in the row's stead: by the link that the row is, a case for each kind. Other rows of the same relation make the same step.
 -- Assumes nothing.
+use Rattle.std.specs.Prelude.{Some}
 use Prim.Native.Nat.{ℕ, suc, ◌+◌, ◌<◌, ◌≤◌}
 use native.Mathlib.Omega.{arith}
 use mathlib.Core.Path.{◌≡◌, refl, sym, ap, subst, ◌∙◌}
@@ -26,7 +27,7 @@ use Rattle.walk.specs.Arcs.{takes, turned, tail_of, head_of, arc_at, Steps, leav
 use Rattle.walk.proofs.Walking.{step-inside, other_step, other-apart, step_other}
 use Rattle.ask.proofs.Links.{walk_for, Link, joins, climbs, gives-right, serves, link-of, member-arc, step-arc, right-arc, same_row}
 use Rattle.reach.specs.Reaching.{LeadsTo}
-use Rattle.reach.proofs.Reaching.{Step, own-step, any_step}
+use Rattle.reach.proofs.Reaching.{StepFor, own-step, any_step}
 use Rattle.paths.proofs.Detours.{without, kept, still, never, Detour, detour-of, detour-reach}
 use Rattle.redundant.proofs.Taking.{Own, own_of, kind_by, kind-by}
 
@@ -68,7 +69,7 @@ module _ (s : List ℕ) (acc : Accepted s) (seat : Seat) (side : Side) (j : ℕ)
 
   -- the walk but for the row's own step
   abbrev past : Walk
-  past = leaving_out w (record { some = true; from = from; to = to })
+  past = leaving_out w (Some (record { from = from; to = to }))
 
   abbrev OtherSteps : ℕ → ℕ → Type 0
   OtherSteps = Steps s (edge_table s) past (header_of s).edges
@@ -112,7 +113,7 @@ module _ (s : List ℕ) (acc : Accepted s) (seat : Seat) (side : Side) (j : ℕ)
     unfolding head_of
     enters-to = rw straight
 
-    past-step : (a b : ℕ) → Step s acc seat side 0 a b → (a ≡ from → b ≡ to → ⊥) → OtherSteps a b
+    past-step : (a b : ℕ) → StepFor s acc seat side 0 a b → (a ≡ from → b ≡ to → ⊥) → OtherSteps a b
     past-step a b x apart = step_other s (edge_table s) seat (right_kind side) 0 from to (header_of s).edges a b x apart
 
     -- ---- where a walk by other steps leads: types never fall, and from a deed on they rise

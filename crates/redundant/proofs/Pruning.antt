@@ -1,5 +1,6 @@
 -- A row that counts is redundant exactly if the numbers of its walk past it reach its to end: the grants' walk, or for a ban row the bans'.
 -- Assumes nothing.
+use Rattle.std.specs.Prelude.{Some}
 use Prim.Native.Nat.{ℕ, ◌<◌, ◌≤◌}
 use native.Mathlib.Omega.{arith}
 use mathlib.Core.Path.{◌≡◌, refl, sym, ap, subst, ◌∙◌}
@@ -32,12 +33,16 @@ use Rattle.meaning.specs.Answers.{Says}
 use Rattle.meaning.proofs.Sparing.{says-as}
 use Rattle.meaning.specs.Questions.{HasBanRow, AlsoMember, Redundant, member-row, containment-row, right-row, RedundantRow, RedundantEdgesAre}
 use Rattle.walk.specs.declared.Walk.{Walk}
-use Rattle.walk.specs.Arcs.{takes, Steps, walk_of, leaving_out}
+use Rattle.walk.specs.Arcs.{takes, Steps, leaving_out}
 use Rattle.ask.proofs.Links.{kind-of, ends-are}
+use Rattle.question.specs.declared.office.OfficeSheet.{OfficeSheet}
+use Rattle.walk.specs.declared.walker.Tour.{Tour}
 use Rattle.reach.specs.Reaching.{Tells, LeadsTo}
+use Rattle.reach.specs.Toured.{Prepared}
+use Rattle.reach.proofs.Touring.{toured}
 use Rattle.reach.proofs.Collecting.{Collected, collected-all}
 use Rattle.reach.proofs.Marking.{reached-from}
-use Rattle.redundant.specs.Pruned.{step_of, LeadsPast, ban_at}
+use Rattle.redundant.specs.Pruned.{step_of, LeadsPast, LedPast, ban_at}
 use Rattle.redundant.proofs.Taking.{Straight, grants-straight, bans-straight}
 use Rattle.redundant.proofs.Past.{PastBy, also-member, also-contained, also-right, past-found, found-past}
 
@@ -160,16 +165,26 @@ unmarked s t h f seat j e q n r = let own = q ∙ row_under s t h f j in true≢
 
 -- ---- a walk's number tells whether other steps lead past a row
 
-pub past-told : (s t : List ℕ) (h : Header) (seat : Seat) (right : ℕ) (e : Edge) (w : Walk) (d : List ℕ) → w ≡ leaving_out (walk_of seat right 0) (step_of e) → (length d ≡ max_nodes) × Layers (Steps s t w h.edges) (λ x. x ≡ e.from) d
-    → e.to < h.nodes → Says (not (eqb (get_or d e.to 0) 0)) (LeadsPast s t h seat right e)
-past-told s t h seat right e w d q y l = subst (λ (x : Walk). Says (not (eqb (get_or d e.to 0) 0)) (LeadsTo s t h x e.from e.to)) q (go (eqb (get_or d e.to 0) 0) refl)
+pub past-told : (s t : List ℕ) (h : Header) (w past : Walk) (e : Edge) (d : List ℕ) → past ≡ leaving_out w (Some (step_of e)) → (length d ≡ max_nodes) × Layers (Steps s t past h.edges) (λ x. x ≡ e.from) d → e.to < h.nodes
+    → Says (not (eqb (get_or d e.to 0) 0)) (LeadsTo s t h (leaving_out w (Some (step_of e))) e.from e.to)
+past-told s t h w past e d q y l = subst (λ (x : Walk). Says (not (eqb (get_or d e.to 0) 0)) (LeadsTo s t h x e.from e.to)) q (go (eqb (get_or d e.to 0) 0) refl)
   where
-    T : Tells (get_or d e.to 0) (LeadsTo s t h w e.from e.to)
-    T = (reached-from s t h w e.from d y.0 y.1).each e.to l
+    T : Tells (get_or d e.to 0) (LeadsTo s t h past e.from e.to)
+    T = (reached-from s t h past e.from d y.0 y.1).each e.to l
 
-    go : (b : Bool) → eqb (get_or d e.to 0) 0 ≡ b → Says (not b) (LeadsTo s t h w e.from e.to)
+    go : (b : Bool) → eqb (get_or d e.to 0) 0 ≡ b → Says (not b) (LeadsTo s t h past e.from e.to)
     go true z = T.no (eqb-true _ 0 z)
     go false z = T.yes (λ n. true≢false (sym (eq-eqb _ 0 n) ∙ z))
+
+-- and so of a right's walk over the office's sheet
+pub past-at : (o : OfficeSheet) (right : ℕ) (t : Tour) → Prepared o right t → (e : Edge) (b : Bool) → Says b (LedPast t.walker e) → Says b (LeadsPast o.sheet.words.now o.sheet.edges.now o.sheet.header o.seat right e)
+past-at o right t p e b x = toured o right t p (λ s w. Says b (LeadsTo s.words.now s.edges.now s.header (leaving_out w (Some (step_of e))) e.from e.to)) x
+
+pub both-past-at : (o : OfficeSheet) (u : Tour) → Prepared o grant_kind u → (v : Tour) → Prepared o ban_kind v → (e : Edge) (b : Bool) → Says b (LedPast u.walker e × LedPast v.walker e)
+    → Says b (LeadsPast o.sheet.words.now o.sheet.edges.now o.sheet.header o.seat grant_kind e × LeadsPast o.sheet.words.now o.sheet.edges.now o.sheet.header o.seat ban_kind e)
+both-past-at o u p v q e b x =
+    toured o ban_kind v q (λ s w. Says b (LeadsPast o.sheet.words.now o.sheet.edges.now o.sheet.header o.seat grant_kind e × LeadsTo s.words.now s.edges.now s.header (leaving_out w (Some (step_of e))) e.from e.to))
+    (toured o grant_kind u p (λ s w. Says b (LeadsTo s.words.now s.edges.now s.header (leaving_out w (Some (step_of e))) e.from e.to × LedPast v.walker e)) x)
 
 -- ---- an office has a ban row exactly if one of the rows that count is a ban
 
@@ -215,24 +230,10 @@ module _ (s : List ℕ) (seat : Seat) where
   pub bans-say : (t : List ℕ) (h : Header) → WellFormed s t h → (b : Bool) → b ≡ some_row (ban_at t h seat) h.edges → Says b (HasBanRow (seen_from s seat))
   bans-say t h f b q = subst (λ (x : Bool). Says x (HasBanRow (seen_from s seat))) (sym q) (told-bans t h f)
 
--- both, one after the other
-pub first-fails : (P Q : Type 0) (b : Bool) → Says b P → b ≡ false → Says b (P × Q)
-first-fails P Q true x z = absurd (true≢false z)
-first-fails P Q false x z = λ y. x y.0
-
-pub then-second : (P Q : Type 0) (a b : Bool) → Says a P → a ≡ true → Says b Q → Says b (P × Q)
-then-second P Q true true x z y = (x, y)
-then-second P Q true false x z y = λ w. y w.1
-then-second P Q false b x z y = absurd (true≢false (sym z))
-
 -- no membership needs the bans' walk where the test that asks for it fails
 pub not-asked : (b : Bool) (kind : ℕ) {P : Type 0} → Says b P → (b && eqb kind member_kind) ≡ false → kind ≡ member_kind → P → ⊥
 not-asked true kind x z k r = true≢false (sym (eq-eqb kind member_kind k) ∙ z)
 not-asked false kind x z k r = x r
-
--- the ends of a row are rows
-pub ends-inside : (s t : List ℕ) (h : Header) → WellFormed s t h → (j : ℕ) (e : Edge) → e ≡ edge_at h t j → j < h.edges → (e.from < h.nodes) × (e.to < h.nodes)
-ends-inside s t h f j e q l = subst (λ (x : Edge). (x.from < h.nodes) × (x.to < h.nodes)) (sym q) ((f.edges.shaped j l).from, (f.edges.shaped j l).to)
 
 -- the rows collected are all that there are
 pub pruned-all : (s t : List ℕ) (h : Header) → WellFormed s t h → (office j : ℕ) (out : List ℕ) → h.edges ≤ j → Collected (RedundantRow s office) (λ i. i) j out → RedundantEdgesAre s office out

@@ -1,166 +1,108 @@
 // Question 10 at an office: the rows that are redundant, each judged by walks without its step.
 #![tactic(auto)]
 
-ghost use Rattle.std.specs.Prelude.{◌≡◌, ◌<◌, length};
-ghost use Rattle.sheet.specs.Kinds.{grant_kind, ban_kind};
+ghost use Rattle.std.specs.Prelude.{◌≡◌, ◌<◌, length, Some};
 ghost use Rattle.sheet.specs.Limits.{most_edges};
-ghost use Rattle.tables.specs.Count.{some_row};
-ghost use Rattle.sheet.specs.Accepted.{EdgeRoom, WellFormed};
-ghost use Rattle.sheet.specs.Seats.{Seated};
 ghost use Rattle.meaning.specs.Answers.{Says};
 ghost use Rattle.meaning.specs.Questions.{RedundantRow, RedundantEdgesAre};
-ghost use Rattle.question.specs.Checked.{AtSeat};
 ghost use Rattle.reach.specs.Finds.{Finds};
-ghost use Rattle.walk.specs.Arcs.{walk_of, Arranged};
-ghost use Rattle.redundant.specs.Pruned.{BothArranged, step_of, LeadsPast, ban_at};
+ghost use Rattle.redundant.specs.Pruned.{step_of, LedPast, has_ban};
 
-use reach::FoundWords;
-use sheet::{BAN, Edge, GRANT, Header, MEMBER, Seat};
-use walk::LeftOut;
+use question::OfficeSheet;
+use reach::Rights;
+use sheet::{BAN, Edge, GRANT, MEMBER};
+use walk::{Step, Tour, Walker};
 
 // The step that a row makes.
-fn step_of(e: Edge) -> LeftOut
+fn step_of(e: Edge) -> Step
     ensures { result ≡ step_of e }
 {
-    LeftOut {
-        some: true,
+    Step {
         from: e.from,
         to: e.to,
     }
 }
 
-// Whether other steps lead from a row's one end to the other, by the walk to rights of a kind.
-fn leads_past(
-    sheet: &[u32],
-    edges: &[u32],
-    h: Header,
-    seat: Seat,
-    right: u32,
-    index: &[u32],
-    e: Edge,
-) -> bool
-    requires { WellFormed sheet.now edges.now h × Seated seat × Arranged sheet.now edges.now h (walk_of seat right 0) index.now × (e.from < h.nodes) × (e.to < h.nodes) }
-    ensures { Says result (LeadsPast sheet.now edges.now h seat right e) }
+// Whether other steps lead from a row's one end to the other, by the walk to a right.
+fn leads_past(tour: &Tour<'_>, e: Edge) -> bool
+    requires { (e.from < tour.now.walker.sheet.header.nodes) × (e.to < tour.now.walker.sheet.header.nodes) }
+    ensures { Says result (LedPast tour.now.walker e) }
 {
-    let past = walk::leaving_out(walk::walk_of(seat, right, 0), step_of(e));
-    let d = walk::reach(sheet, edges, h, past, index, e.from);
+    let past = Tour {
+        walker: Walker {
+            sheet: tour.walker.sheet,
+            walk: walk::leaving_out(tour.walker.walk, Some(step_of(e))),
+        },
+        index: tour.index,
+    };
+    let d = past.reach(e.from);
     let to = e.to as usize;
     d[to] != 0
 }
 
 // Whether the office has a ban row.
-fn has_ban_row(edges: &[u32], h: Header, seat: Seat) -> bool
-    requires { EdgeRoom h edges.now × Seated seat }
-    ensures { result ≡ some_row (ban_at edges.now h seat) h.edges }
+fn has_ban_row(at: &OfficeSheet<'_>) -> bool
+    ensures { result ≡ has_ban at.now }
 {
-    let rows = h.edges;
-    let mut j: u32 = 0;
-    while j < rows {
-        let e = sheet::edge_at(edges, h, j as usize);
-        if sheet::counts(seat, e) & (e.kind == BAN) {
+    for j in 0..at.sheet.header.edges {
+        let e = at.sheet.edge(j as usize);
+        if sheet::counts(at.seat, e) & (e.kind == BAN) {
             return true;
         }
-        j += 1;
     }
     false
 }
 
 // Whether both walks lead past a row.
-fn both_lead_past(
-    sheet: &[u32],
-    edges: &[u32],
-    h: Header,
-    seat: Seat,
-    grantindex: &[u32],
-    banindex: &[u32],
-    e: Edge,
-) -> bool
-    requires { AtSeat sheet.now edges.now h seat × BothArranged sheet.now edges.now h seat grantindex.now banindex.now × (e.from < h.nodes) × (e.to < h.nodes) }
-    ensures { Says result (LeadsPast sheet.now edges.now h seat grant_kind e × LeadsPast sheet.now edges.now h seat ban_kind e) }
+fn both_lead_past(rights: &Rights<'_, '_, '_>, e: Edge) -> bool
+    requires { (e.from < rights.now.at.sheet.header.nodes) × (e.to < rights.now.at.sheet.header.nodes) }
+    ensures { Says result (LedPast rights.now.grants.walker e × LedPast rights.now.bans.walker e) }
 {
-    let up = leads_past(sheet, edges, h, seat, GRANT, grantindex, e);
-    if !up {
-        return up;
-    }
-    leads_past(sheet, edges, h, seat, BAN, banindex, e)
+    let up = leads_past(&rights.grants, e);
+    up && leads_past(&rights.bans, e)
 }
 
 // Whether an edge row counts for the seat and is redundant there; `bans` says whether the office has a ban row. A ban is judged by the bans' walk, any other row by the grants', and a membership by both where there is a ban to lose.
-fn is_redundant(
-    sheet: &[u32],
-    edges: &[u32],
-    h: Header,
-    seat: Seat,
-    bans: bool,
-    grantindex: &[u32],
-    banindex: &[u32],
-    j: u32,
-) -> bool
-    requires { AtSeat sheet.now edges.now h seat × (j < h.edges) × BothArranged sheet.now edges.now h seat grantindex.now banindex.now × (bans ≡ some_row (ban_at edges.now h seat) h.edges) }
-    ensures { Says result (RedundantRow sheet.now seat.office j) }
+fn is_redundant(rights: &Rights<'_, '_, '_>, bans: bool, j: u32) -> bool
+    requires { (j < rights.now.at.sheet.header.edges) × (bans ≡ has_ban rights.now.at) }
+    ensures { Says result (RedundantRow rights.now.at.sheet.words.now rights.now.at.seat.office j) }
 {
-    let e = sheet::edge_at(edges, h, j as usize);
-    if !sheet::counts(seat, e) {
+    let e = rights.at.sheet.edge(j as usize);
+    if !sheet::counts(rights.at.seat, e) {
         return false;
     }
     if e.kind == BAN {
-        return leads_past(sheet, edges, h, seat, BAN, banindex, e);
+        return leads_past(&rights.bans, e);
     }
     if bans & (e.kind == MEMBER) {
-        return both_lead_past(sheet, edges, h, seat, grantindex, banindex, e);
+        return both_lead_past(rights, e);
     }
-    leads_past(sheet, edges, h, seat, GRANT, grantindex, e)
+    leads_past(&rights.grants, e)
 }
 
-// The rows that are redundant from the seat, rising, by arcs that are in order.
-fn prune(
-    sheet: &[u32],
-    edges: &[u32],
-    h: Header,
-    seat: Seat,
-    bans: bool,
-    grantindex: &[u32],
-    banindex: &[u32],
-    list: &mut [u32],
-) -> FoundWords
-    requires { AtSeat sheet.now edges.now h seat × BothArranged sheet.now edges.now h seat grantindex.now banindex.now × (bans ≡ some_row (ban_at edges.now h seat) h.edges) × (length list.old ≡ most_edges) }
-    ensures { Finds (RedundantEdgesAre sheet.now seat.office) list.new result }
+// The rows that are redundant from the seat, rising.
+fn prune(rights: &Rights<'_, '_, '_>, bans: bool, list: &mut [u32]) -> u32
+    requires { (bans ≡ has_ban rights.now.at) × (length list.old ≡ most_edges) }
+    ensures { Finds (RedundantEdgesAre rights.now.at.sheet.words.now rights.now.at.seat.office) list.new (Some result) }
 {
-    let rows = h.edges;
-    let mut n: u32 = 0;
-    let mut j: u32 = 0;
-    while j < rows {
-        let good = is_redundant(sheet, edges, h, seat, bans, grantindex, banindex, j);
-        n = reach::put(list, n, good, j);
-        j += 1;
+    let mut n = 0;
+    for j in 0..rights.at.sheet.header.edges {
+        n = reach::put(list, n, is_redundant(rights, bans, j), j);
     }
-    FoundWords {
-        found: true,
-        count: n,
-    }
+    n
 }
 
 // Question 10 from the seat: the rows that are redundant, rising.
-pub fn redundant_edges_at(
-    sheet: &[u32],
-    edges: &[u32],
-    h: Header,
-    seat: Seat,
-    list: &mut [u32],
-) -> FoundWords
-    requires { AtSeat sheet.now edges.now h seat × (length list.old ≡ most_edges) }
-    ensures { Finds (RedundantEdgesAre sheet.now seat.office) list.new result }
+pub fn redundant_edges_at(at: &OfficeSheet<'_>, list: &mut [u32]) -> Option<u32>
+    requires { length list.old ≡ most_edges }
+    ensures { Finds (RedundantEdgesAre at.now.sheet.words.now at.now.seat.office) list.new result }
 {
     let mut grantindex = walk::blank_index();
-    walk::arrange(
-        sheet,
-        edges,
-        h,
-        walk::walk_of(seat, GRANT, 0),
-        &mut grantindex,
-    );
     let mut banindex = walk::blank_index();
-    walk::arrange(sheet, edges, h, walk::walk_of(seat, BAN, 0), &mut banindex);
-    let bans = has_ban_row(edges, h, seat);
-    prune(sheet, edges, h, seat, bans, &grantindex, &banindex, list)
+    let rights = Rights {
+        at: *at,
+        grants: reach::tour_of(*at, GRANT, &mut grantindex),
+        bans: reach::tour_of(*at, BAN, &mut banindex),
+    };
+    Some(prune(&rights, has_ban_row(at), list))
 }

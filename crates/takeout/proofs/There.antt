@@ -24,7 +24,7 @@ use Rattle.combine.specs.declared.Measure.{Measure}
 use Rattle.combine.specs.Combined.{keys, PlacesIn}
 use Rattle.combine.specs.Rules.{makes}
 use Rattle.combine.specs.Sheets.{Measured}
-use Rattle.combine.proofs.Combining.{Combination, combination}
+use Rattle.combine.proofs.Combining.{HasCombination, combination}
 use Rattle.combine.proofs.Reading.{half-table}
 use Rattle.combine.proofs.Ruling.{zero-run}
 use Rattle.combine.proofs.Whole.{there}
@@ -72,7 +72,7 @@ module _ (s : List ℕ) (w : Accepted s) (k n : ℕ) where
   abbrev run_rule : Rule
   run_rule = Run (2 ^ k) (2 ^ n)
 
-  rows : (half : Half) → Combination (makes run_rule) (count_in half (header_of s)) (row_at half s) (count_in half (header_of s)) (row_at half s)
+  rows : (half : Half) → HasCombination (makes run_rule) (count_in half (header_of s)) (row_at half s) (count_in half (header_of s)) (row_at half s)
   rows half = combination (makes run_rule) (zero-run (2 ^ k) (2 ^ n)) _ (row_at half s) (half-table s (header_of s) w half) _ (row_at half s) (half-table s (header_of s) w half)
 
   -- where a node row of the sheet goes

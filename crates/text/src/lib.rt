@@ -1,4 +1,6 @@
 // A text that grows: bytes, or a label and a number in decimal, behind what is there already.
+// Stays: the text and the place in it are handed from call to call. A struct of both would be no plainer: it would hold a lent text to be
+// written, which lives for one call, and what every caller promises is said of the text and the place (`Grows`).
 #![tactic(auto)]
 
 ghost use Rattle.std.specs.Prelude.{◌++◌, ◌+◌, ◌≤◌, length};
@@ -15,16 +17,18 @@ pub fn put_bytes(text: &mut [u8], at: usize, bytes: &[u8]) -> usize
 }
 
 // A number in decimal, likewise: the digits in front of the lowest, and then the lowest.
+// Stays: `write!` and the kit's `itoa` print into a buffer of their own, from which the digits are copied, and the theorems on what is
+// printed speak of our own `decimal`.
 fn put_decimal(text: &mut [u8], at: usize, number: u32) -> usize
     requires { at + length (decimal number) ≤ length text.old }
     ensures { Grows text.old at (decimal number) result text.new }
 {
     if number < 10 {
-        text[at] = 48 + number as u8;
+        text[at] = b'0' + number as u8;
         return at + 1;
     }
     let from = put_decimal(text, at, number / 10);
-    text[from] = 48 + (number % 10) as u8;
+    text[from] = b'0' + (number % 10) as u8;
     from + 1
 }
 

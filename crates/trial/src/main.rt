@@ -2,7 +2,7 @@
 // The trial program's page in docs/TRIAL.md has the form of both.
 #![tactic(auto)]
 
-ghost use Rattle.std.specs.Prelude.{◌≡◌, ◌+◌, ◌*◌, ◌^◌, ◌<◌, ◌≤◌, length, replicate};
+ghost use Rattle.std.specs.Prelude.{◌*◌, ◌≤◌, length};
 
 use duty::TraceReply;
 use join::Joined;
@@ -11,7 +11,11 @@ use opened::Which;
 use question::{Answer, Question};
 use sheet::{Edge, Node, Refusal};
 use std::io;
-use std::io::{Read, Write};
+use std::io::{ErrorKind, Read, Write};
+
+mod operation;
+
+use operation::{FileQuestion, List, Operation, RowQuestion, Unknown, WordQuestion};
 
 // The longest payload in bytes, and the longest output in words.
 const MAX_PAYLOAD: usize = 160000;
@@ -33,7 +37,82 @@ struct Request {
     fill: u32,
 }
 
-#[derive(Clone, Copy)]
+impl Request {
+    // A request's head, twelve words.
+    fn of_head(head: &[u8; 48]) -> Request {
+        let mut words = [0u32; 12];
+        files::decode(head, &mut words);
+        Request {
+            operation: words[0],
+            a1: words[1],
+            a2: words[2],
+            a3: words[3],
+            a4: words[4],
+            a5: words[5],
+            first: words[7],
+            second: words[8],
+            room: words[9],
+            fill: words[10],
+        }
+    }
+
+    // What questions 1 and 2 ask: their first number is an office or a rule.
+    fn question(&self) -> Question {
+        Question {
+            office: self.a1,
+            rule: self.a1,
+            person: self.a2,
+            deed: self.a3,
+            folio: self.a4,
+            ..Question::default()
+        }
+    }
+
+    // What questions 3 and 4 ask: of a grant or a ban.
+    fn question_of_kind(&self) -> Question {
+        Question {
+            office: self.a1,
+            kind: self.a2,
+            person: self.a3,
+            deed: self.a4,
+            folio: self.a5,
+            ..Question::default()
+        }
+    }
+
+    // What operations 5 to 10 ask: their second number is a category or a deed, and their third a folio or another deed.
+    fn search(&self) -> Question {
+        Question {
+            office: self.a1,
+            category: self.a2,
+            deed: self.a2,
+            other: self.a3,
+            folio: self.a3,
+            ..Question::default()
+        }
+    }
+
+    fn node(&self) -> Node {
+        Node {
+            class: self.a1,
+            number: self.a2,
+            variant: self.a3,
+            offices: self.a4,
+        }
+    }
+
+    fn edge(&self) -> Edge {
+        Edge {
+            kind: self.a1,
+            from: self.a2,
+            to: self.a3,
+            offices: self.a4,
+        }
+    }
+}
+
+// A reply's words, but for the last, which is the output's length. What an operation does not use is 0.
+#[derive(Clone, Copy, Default)]
 struct Reply {
     number: u32,
     sheet: u32,
@@ -44,208 +123,169 @@ struct Reply {
     further: u32,
 }
 
-// The reply of an operation that tells a refusal's number and place alone.
-fn reply_of_refusal(r: Refusal) -> Reply {
-    Reply {
-        number: r.number,
-        sheet: r.sheet,
-        row: r.row,
-        value: 0,
-        count: 0,
-        extra: 0,
-        further: 0,
-    }
+// A count or a line's number, which fits a word where it is of a payload.
+fn as_word(n: usize) -> u32 {
+    (n % 4294967296) as u32
 }
 
-// The reply of a question.
-fn replied(a: Answer) -> Reply {
-    Reply {
-        number: a.number,
-        sheet: a.sheet,
-        row: a.row,
-        value: a.value,
-        count: a.count,
-        extra: 0,
-        further: 0,
-    }
-}
-
-// What questions 1 to 4 ask, each with its own order of numbers.
-fn question_of(number: u32, q: Request) -> Question {
-    if number < 3 {
-        return Question {
-            office: q.a1,
-            rule: q.a1,
-            kind: 0,
-            person: q.a2,
-            category: 0,
-            deed: q.a3,
-            other: 0,
-            folio: q.a4,
-        };
-    }
-    Question {
-        office: q.a1,
-        rule: 0,
-        kind: q.a2,
-        person: q.a3,
-        category: 0,
-        deed: q.a4,
-        other: 0,
-        folio: q.a5,
-    }
-}
-
-// Operations 1 to 4 on words.
-fn bare_words(q: Request, sheet: &[u32], list: &[u32], out: &mut [u32]) -> Answer {
-    let operation = q.operation;
-    let question = question_of(operation, q);
-    match operation {
-        1 => ask::answer_at_office(sheet, question),
-        2 => ask::joint_answer(sheet, question),
-        3 => ask::witness(sheet, question, out),
-        _ => claim::is_path(sheet, question, list),
-    }
-}
-
-// Question 1, 2 or 3 as a case.
-fn which_of(number: u32) -> Which {
-    match number {
-        1 => Which::AnswerAtOffice,
-        2 => Which::JointAnswer,
-        _ => Which::Witness,
-    }
-}
-
-// Operations 14 to 16 on words: question 1, 2 or 3, asked of an opened sheet.
-fn opened_words(number: u32, q: Request, sheet: &[u32], out: &mut [u32]) -> Reply {
-    let which = which_of(number);
-    let question = question_of(number, q);
-    replied(opened::open_and_ask(sheet, which, question, out))
-}
-
-// What operations 5 to 10 ask: their second number is a category or a deed, and their third a folio or another deed.
-fn search_of(q: Request) -> Question {
-    Question {
-        office: q.a1,
-        rule: 0,
-        kind: 0,
-        person: 0,
-        category: q.a2,
-        deed: q.a2,
-        other: q.a3,
-        folio: q.a3,
-    }
-}
-
-// Operations 5 to 10 on words.
-fn list_words(q: Request, sheet: &[u32], out: &mut [u32]) -> Answer {
-    let search = search_of(q);
-    let operation = q.operation;
-    match operation {
-        5 => lists::persons_in_category(sheet, search, out),
-        6 => lists::persons_with_grant(sheet, search, out),
-        7 => lists::folios_out_of_reach(sheet, search, out),
-        8 => lists::least_triple(sheet, search, out),
-        9 => lists::least_holder(sheet, search, out),
-        _ => lists::redundant_edges(sheet, search, out),
-    }
-}
-
-// Copies as many words of a part as the output has room for.
-fn copy_part(part: &[u32], out: &mut [u32]) {
-    let n = part.len();
-    let mut i: usize = 0;
-    while i < n {
-        if out.len() <= i {
-            return;
+impl From<Refusal> for Reply {
+    fn from(r: Refusal) -> Reply {
+        Reply {
+            number: r.number,
+            sheet: r.sheet,
+            row: r.row,
+            ..Reply::default()
         }
-        out[i] = part[i];
-        i += 1;
     }
 }
 
-// Operation 11 on words: the part as it stands, and the number and place of the other entry.
-fn look_words<'a>(q: Request, first: &'a [u32], second: &'a [u32], out: &mut [u32]) -> Reply {
+impl From<Answer> for Reply {
+    fn from(a: Answer) -> Reply {
+        Reply {
+            number: a.number,
+            sheet: a.sheet,
+            row: a.row,
+            value: a.value,
+            count: a.count,
+            ..Reply::default()
+        }
+    }
+}
+
+impl From<Joined> for Reply {
+    fn from(j: Joined) -> Reply {
+        Reply {
+            number: j.number,
+            sheet: j.sheet,
+            row: j.row,
+            value: j.nodes,
+            count: j.words,
+            extra: j.sharednodes,
+            further: j.sharededges,
+        }
+    }
+}
+
+impl From<Listing> for Reply {
+    fn from(a: Listing) -> Reply {
+        Reply {
+            number: a.number,
+            sheet: a.sheet,
+            row: as_word(a.row),
+            count: as_word(a.count),
+            ..Reply::default()
+        }
+    }
+}
+
+impl From<TraceReply> for Reply {
+    fn from(a: TraceReply) -> Reply {
+        Reply {
+            number: a.number,
+            sheet: a.sheet,
+            row: a.row,
+            count: as_word(a.count),
+            ..Reply::default()
+        }
+    }
+}
+
+// An unknown operation has a number that no refusal has.
+impl From<Unknown> for Reply {
+    fn from(_unknown: Unknown) -> Reply {
+        Reply {
+            number: u32::MAX,
+            ..Reply::default()
+        }
+    }
+}
+
+// Operations 1 to 4.
+fn ask_payload(
+    which: WordQuestion,
+    q: &Request,
+    sheet: &[u32],
+    list: &[u32],
+    out: &mut [u32],
+) -> Answer {
+    match which {
+        WordQuestion::AnswerAtOffice => ask::answer_at_office(sheet, q.question()),
+        WordQuestion::JointAnswer => ask::joint_answer(sheet, q.question()),
+        WordQuestion::Witness => ask::witness(sheet, q.question_of_kind(), out),
+        WordQuestion::IsPath => claim::is_path(sheet, q.question_of_kind(), list),
+    }
+}
+
+// Operations 5 to 10.
+fn list_words(list: List, q: &Request, sheet: &[u32], out: &mut [u32]) -> Answer {
+    let search = q.search();
+    match list {
+        List::PersonsInCategory => lists::persons_in_category(sheet, search, out),
+        List::PersonsWithGrant => lists::persons_with_grant(sheet, search, out),
+        List::FoliosOutOfReach => lists::folios_out_of_reach(sheet, search, out),
+        List::LeastTriple => lists::least_triple(sheet, search, out),
+        List::LeastHolder => lists::least_holder(sheet, search, out),
+        List::RedundantEdges => lists::redundant_edges(sheet, search, out),
+    }
+}
+
+// Operation 11: as many words of the part as there is room for, and the number and place of the other entry.
+fn look_words(q: &Request, first: &[u32], second: &[u32], out: &mut [u32]) -> Reply {
     let part = lookup::look_up(first, second, q.a1, q.a2, q.a3);
-    let r = lookup::look_up_refusal(first, second, q.a1, q.a2, q.a3);
-    let count = part.len() as u32;
-    copy_part(part, out);
+    let refusal = lookup::look_up_refusal(first, second, q.a1, q.a2, q.a3);
+    let n = part.len().min(out.len());
+    out[..n].copy_from_slice(&part[..n]);
     Reply {
-        number: r.number,
-        sheet: r.sheet,
-        row: r.row,
-        value: 0,
-        count: count,
-        extra: 0,
-        further: 0,
+        count: as_word(part.len()),
+        ..Reply::from(refusal)
     }
 }
 
-// The reply of a join.
-fn joined(j: Joined) -> Reply {
-    Reply {
-        number: j.number,
-        sheet: j.sheet,
-        row: j.row,
-        value: j.nodes,
-        count: j.words,
-        extra: j.sharednodes,
-        further: j.sharededges,
-    }
+// Operations 14 to 16: question 1, 2 or 3, asked of an opened sheet.
+fn ask_opened(which: Which, q: &Request, sheet: &[u32], out: &mut [u32]) -> Answer {
+    let question = match which {
+        Which::Witness => q.question_of_kind(),
+        _ => q.question(),
+    };
+    opened::open_and_ask(sheet, which, question, out)
 }
 
-// The reply of reading or writing a listing. A line's number in a payload fits a word.
-fn listed(a: Listing) -> Reply {
-    Reply {
-        number: a.number,
-        sheet: a.sheet,
-        row: (a.row % 4294967296) as u32,
-        value: 0,
-        count: (a.count % 4294967296) as u32,
-        extra: 0,
-        further: 0,
-    }
-}
-
-// The reply of a whole trace. The questions of a payload fit a word.
-fn traced(a: TraceReply) -> Reply {
-    Reply {
-        number: a.number,
-        sheet: a.sheet,
-        row: a.row,
-        value: 0,
-        count: (a.count % 4294967296) as u32,
-        extra: 0,
-        further: 0,
-    }
-}
-
-// The end of the row that starts at a word: a last row may be cut short.
-fn row_end(rows: &[u32], at: usize) -> usize
-    requires { at < length rows.now }
-    ensures { (at < result) × (result ≤ length rows.now) }
+// Lends the output as bytes, four to a word, and takes back what was written.
+fn in_bytes<F: FnOnce(&mut [u8]) -> Reply>(out: &mut [u32], write: F) -> Reply
+    requires room { length out.old ≤ 40000 }
+    requires written { F.IsAlwaysCallable write }
 {
-    if rows.len() - at < 5 {
-        rows.len()
-    } else {
-        at + 5
+    let mut bytes = [0u8; MAX_PAYLOAD];
+    files::encode(out, &mut bytes);
+    let room = &mut bytes[..4 * out.len()];
+    let reply = write(room);
+    files::decode(room, out);
+    reply
+}
+
+// Operations 21 to 23, by the counter's entries on the payload's bytes.
+fn ask_file(which: FileQuestion, q: &Request, file: &[u8], out: &mut [u32]) -> Reply
+    requires { length out.old ≤ 40000 }
+{
+    match which {
+        FileQuestion::Answer => counter::tormukai_answer(file, q.a1, q.a2, q.a3, q.a4).into(),
+        FileQuestion::JointAnswer => {
+            counter::tormukai_joint_answer(file, q.a1, q.a2, q.a3, q.a4).into()
+        }
+        FileQuestion::Witness => in_bytes(out, |room| {
+            counter::tormukai_witness(file, q.a1, q.a2, q.a3, q.a4, q.a5, room).into()
+        }),
     }
 }
 
-// Writes a step's answer, where its row asks and there is room for it, and counts it.
-fn put_told(out: &mut [u32], at: usize, a: Answer) -> usize
-    requires { at + 1 < 2 ^ 64 }
-    ensures { (result ≤ at + 1) × (length out.new ≡ length out.old) }
-{
-    if a.count == 0 {
-        return at;
+// Operations 32 and 33: where a row stands or would stand. 34 and 35: a row added.
+fn ask_row(which: RowQuestion, q: &Request, sheet: &[u32], out: &mut [u32]) -> Answer {
+    match which {
+        RowQuestion::FindNode => find::find_node(sheet, q.a1, q.a2, q.a3),
+        RowQuestion::FindEdge => find::find_edge(sheet, q.a1, q.a2, q.a3),
+        RowQuestion::AddNode => add::add_node(sheet, q.node(), out),
+        RowQuestion::AddEdge => add::add_edge(sheet, q.edge(), out),
     }
-    if at < out.len() {
-        out[at] = a.value;
-        return at + 1;
-    }
-    at + 1
 }
 
 // The reply of steps: the last answer's refusal, how many rows were taken, and how many asked.
@@ -254,317 +294,138 @@ fn stepped(a: Answer, taken: usize, count: usize) -> Reply {
         number: a.number,
         sheet: a.sheet,
         row: a.row,
-        value: (taken % 4294967296) as u32,
-        count: (count % 4294967296) as u32,
-        extra: 0,
-        further: 0,
+        value: as_word(taken),
+        count: as_word(count),
+        ..Reply::default()
     }
 }
 
-// Operation 37: rows put to one table, which was empty at first, until one is refused.
+// Operation 37: rows put to one table, which was empty at first, until one is refused. A last row may be cut short.
 fn step_words(timeout: u32, sheet: &[u32], rows: &[u32], out: &mut [u32]) -> Reply {
-    let mut w = watch::empty_watch();
-    let mut i: usize = 0;
+    let mut watch = watch::empty_watch();
     let mut taken: usize = 0;
     let mut count: usize = 0;
-    while i < rows.len() {
-        let end = row_end(rows, i);
-        let s = duty::lend_and_step(w, sheet, timeout, &rows[i..end]);
-        let a = s.answer;
+    for row in rows.chunks(5) {
+        let a = duty::step(&mut watch, sheet, timeout, row);
         if a.number != 0 {
             return stepped(a, taken, count);
         }
-        count = put_told(out, count, a);
-        let next = s.watch;
-        w = next;
+        if a.count != 0 {
+            if let Some(word) = out.get_mut(count) {
+                *word = a.value;
+            }
+            count += 1;
+        }
         taken += 1;
-        i = end;
     }
-    stepped(question::told(0, 0), taken, count)
-}
-
-// Operation 31: the text's bytes, four to a word of the output.
-fn write_text(sheet: &[u32], out: &mut [u32]) -> Listing
-    requires { length out.old ≤ 40000 }
-{
-    let mut bytes = [0u8; MAX_PAYLOAD];
-    files::encode(out, &mut bytes);
-    let n = 4 * out.len();
-    let room = &mut bytes[0..n];
-    let a = listing::write_listing(sheet, room);
-    files::decode(room, out);
-    a
-}
-
-// Operation 23: the path's bytes, four to a word of the output.
-fn witness_file(q: Request, file: &[u8], out: &mut [u32]) -> Answer
-    requires { length out.old ≤ 40000 }
-{
-    let mut bytes = [0u8; MAX_PAYLOAD];
-    files::encode(out, &mut bytes);
-    let n = 4 * out.len();
-    let room = &mut bytes[0..n];
-    let a = counter::tormukai_witness(file, q.a1, q.a2, q.a3, q.a4, q.a5, room);
-    files::decode(room, out);
-    a
-}
-
-// Operations 21 to 23 by the counter's entries, on the bytes of their payload.
-fn ask_file(q: Request, file: &[u8], out: &mut [u32]) -> Answer
-    requires { length out.old ≤ 40000 }
-{
-    let operation = q.operation;
-    match operation {
-        21 => counter::tormukai_answer(file, q.a1, q.a2, q.a3, q.a4),
-        22 => counter::tormukai_joint_answer(file, q.a1, q.a2, q.a3, q.a4),
-        _ => witness_file(q, file, out),
-    }
-}
-
-// Operations 32 and 33: where a row stands or would stand. 34 and 35: a row added.
-fn row_words(q: Request, sheet: &[u32], out: &mut [u32]) -> Answer {
-    let operation = q.operation;
-    match operation {
-        32 => find::find_node(sheet, q.a1, q.a2, q.a3),
-        33 => find::find_edge(sheet, q.a1, q.a2, q.a3),
-        34 => add::add_node(
-            sheet,
-            Node {
-                class: q.a1,
-                number: q.a2,
-                variant: q.a3,
-                offices: q.a4,
-            },
-            out,
-        ),
-        _ => add::add_edge(
-            sheet,
-            Edge {
-                kind: q.a1,
-                from: q.a2,
-                to: q.a3,
-                offices: q.a4,
-            },
-            out,
-        ),
-    }
+    stepped(Answer::default(), taken, count)
 }
 
 // The operation's function on its payloads, of bytes or of words, and its output.
-fn answer<'a>(
-    q: Request,
+fn answer(
+    q: &Request,
     file: &[u8],
-    first: &'a [u32],
-    second: &'a [u32],
+    first: &[u32],
+    second: &[u32],
     out: &mut [u32],
-) -> Reply
+) -> Result<Reply, Unknown>
     requires { length out.old ≤ 40000 }
 {
-    let operation = q.operation;
-    if (1 <= operation) & (operation <= 4) {
-        return replied(bare_words(q, first, second, out));
-    }
-    if (5 <= operation) & (operation <= 10) {
-        return replied(list_words(q, first, out));
-    }
-    if operation == 11 {
-        return look_words(q, first, second, out);
-    }
-    if operation == 12 {
-        return joined(join::join(first, second, out));
-    }
-    if operation == 13 {
-        return replied(takeout::take_out(first, q.a1, out));
-    }
-    if (21 <= operation) & (operation <= 23) {
-        return replied(ask_file(q, file, out));
-    }
-    if (32 <= operation) & (operation <= 35) {
-        return replied(row_words(q, first, out));
-    }
-    match operation {
-        0 => reply_of_refusal(verdict::check(first)),
-        14 => opened_words(1, q, first, out),
-        15 => opened_words(2, q, first, out),
-        16 => opened_words(3, q, first, out),
-        20 => reply_of_refusal(files::check_bytes(file)),
-        30 => listed(listing::read_listing(file, out)),
-        31 => listed(write_text(first, out)),
-        36 => traced(duty::trace(first, q.a1, second, out)),
-        37 => step_words(q.a1, first, second, out),
-        _ => reply_of_refusal(Refusal {
-            number: 4294967295,
-            sheet: 0,
-            row: 0,
-        }),
-    }
+    let reply = match Operation::try_from(q.operation)? {
+        Operation::Check => verdict::check(first).into(),
+        Operation::Ask(which) => ask_payload(which, q, first, second, out).into(),
+        Operation::List(list) => list_words(list, q, first, out).into(),
+        Operation::LookUp => look_words(q, first, second, out),
+        Operation::Join => join::join(first, second, out).into(),
+        Operation::TakeOut => takeout::take_out(first, q.a1, out).into(),
+        Operation::AskOpened(which) => ask_opened(which, q, first, out).into(),
+        Operation::CheckFile => files::check_bytes(file).into(),
+        Operation::AskFile(which) => ask_file(which, q, file, out),
+        Operation::ReadListing => listing::read_listing(file, out).into(),
+        Operation::WriteListing => in_bytes(out, |room| listing::write_listing(first, room).into()),
+        Operation::AskRow(which) => ask_row(which, q, first, out).into(),
+        Operation::Trace => duty::trace(first, q.a1, second, out).into(),
+        Operation::Step => step_words(q.a1, first, second, out),
+    };
+    Ok(reply)
 }
 
-// Every word of the output, as the request fills it.
-fn fill_with(out: &mut [u32], word: u32)
-    ensures { out.new ≡ replicate (length out.old) word }
+// The buffers that a request is answered in, lent anew for each.
+#[derive(Drop)]
+struct Buffers<'a> {
+    first: &'a mut [u8; MAX_PAYLOAD],
+    second: &'a mut [u8; MAX_PAYLOAD],
+    words: &'a mut [u32; MAX_OUTPUT],
+    others: &'a mut [u32; MAX_OUTPUT],
+    out: &'a mut [u32; MAX_OUTPUT],
+    bytes: &'a mut [u8; MAX_PAYLOAD],
+}
+
+// Writes words to standard output, by way of lent bytes that have room for them. Where it can't be written, nobody reads it.
+fn send(output: &mut impl Write, words: &[u32], bytes: &mut [u8])
+    requires { 4 * length words.now ≤ length bytes.old }
 {
-    let n = out.len();
-    let mut i: usize = 0;
-    while i < n {
-        out[i] = word;
-        i += 1;
-    }
-}
-
-// Writes words to standard output, by way of lent bytes that have room for them.
-fn send(output: &mut impl Write, words: &[u32], bytes: &mut [u8]) {
-    let n = words.len();
-    if bytes.len() / 4 < n {
-        return;
-    }
     files::encode(words, bytes);
-    let _ = output.write_all(&bytes[0..4 * n]);
+    let _ = output.write_all(&bytes[..4 * words.len()]);
 }
 
-// Writes a reply's head to standard output.
-fn send_head(output: &mut impl Write, r: Reply, room: u32, bytes: &mut [u8]) {
-    send(
-        output,
-        &[
-            r.number, r.sheet, r.row, r.value, r.count, r.extra, r.further, room,
-        ],
-        bytes,
-    );
-}
-
-// Answers one request on its payloads, and writes the reply with the whole output behind it.
-fn respond<'a>(
+// Answers a request on its payloads, and writes the reply with the whole output behind it.
+fn respond(
     output: &mut impl Write,
-    q: Request,
+    q: &Request,
     file: &[u8],
-    first: &'a [u32],
-    second: &'a [u32],
+    first: &[u32],
+    second: &[u32],
     out: &mut [u32],
-    bytes: &mut [u8],
+    bytes: &mut [u8; MAX_PAYLOAD],
 )
     requires { length out.old ≤ 40000 }
 {
-    fill_with(out, q.fill);
-    let r = answer(q, file, first, second, out);
-    send_head(output, r, q.room, bytes);
+    out.fill(q.fill);
+    let r = match answer(q, file, first, second, out) {
+        Ok(reply) => reply,
+        Err(unknown) => unknown.into(),
+    };
+    let head = [
+        r.number, r.sheet, r.row, r.value, r.count, r.extra, r.further, q.room,
+    ];
+    send(output, &head, bytes);
     send(output, out, bytes);
 }
 
-// Fills the bytes from standard input; false where it ends first.
-fn fetch(input: &mut impl Read, bytes: &mut [u8]) -> bool {
-    input.read_exact(bytes).is_ok()
-}
-
-// A request's head.
-fn request_of(head: &[u8]) -> Request {
-    let mut words = [0u32; 12];
-    files::decode(head, &mut words);
-    Request {
-        operation: words[0],
-        a1: words[1],
-        a2: words[2],
-        a3: words[3],
-        a4: words[4],
-        a5: words[5],
-        first: words[7],
-        second: words[8],
-        room: words[9],
-        fill: words[10],
-    }
-}
-
-// The words of both payloads, in lent words that have room for them, and the answer.
-fn decode_and_respond(
-    output: &mut impl Write,
-    q: Request,
-    first: &[u8],
-    second: &[u8],
-    words: &mut [u32],
-    others: &mut [u32],
-    out: &mut [u32],
-    bytes: &mut [u8],
-)
-    requires { length out.old ≤ 40000 }
-{
-    let n = first.len() / 4;
-    let m = second.len() / 4;
-    if words.len() < n {
-        return;
-    }
-    if others.len() < m {
-        return;
-    }
-    files::decode(first, words);
-    files::decode(second, others);
-    respond(output, q, first, &words[0..n], &others[0..m], out, bytes);
-}
-
-// Reads a request's payloads, and answers it; false where the input ends first.
-fn attend(
-    input: &mut impl Read,
-    output: &mut impl Write,
-    q: Request,
-    first: &mut [u8],
-    second: &mut [u8],
-    words: &mut [u32],
-    others: &mut [u32],
-    out: &mut [u32],
-    bytes: &mut [u8],
-) -> bool
-    requires { length out.old ≤ 40000 }
-{
-    if !fetch(input, first) {
-        return false;
-    }
-    if !fetch(input, second) {
-        return false;
-    }
-    decode_and_respond(output, q, first, second, words, others, out, bytes);
-    true
-}
-
-// Reads one request, and answers it in the lent buffers; false where the input has no whole one, or its lengths are over theirs.
-fn serve(
-    input: &mut impl Read,
-    output: &mut impl Write,
-    first: &mut [u8],
-    second: &mut [u8],
-    words: &mut [u32],
-    others: &mut [u32],
-    space: &mut [u32],
-    bytes: &mut [u8],
-) -> bool
-    requires { length space.old ≤ 40000 }
-{
+// Reads one request and answers it. Fails where the input has no whole request, or its lengths are over the buffers'.
+fn serve(input: &mut impl Read, output: &mut impl Write, buffers: Buffers<'_>) -> io::Result<()> {
     let mut head = [0u8; 48];
-    if !fetch(input, &mut head) {
-        return false;
-    }
-    let q = request_of(&head);
+    input.read_exact(&mut head)?;
+    let q = Request::of_head(&head);
     let a = q.first as usize;
     let b = q.second as usize;
     let room = q.room as usize;
-    if first.len() < a {
-        return false;
+    if MAX_PAYLOAD < a || MAX_PAYLOAD < b || MAX_OUTPUT < room {
+        return Err(io::Error::from(ErrorKind::InvalidInput));
     }
-    if second.len() < b {
-        return false;
-    }
-    if space.len() < room {
-        return false;
-    }
-    attend(
-        input,
-        output,
-        q,
-        &mut first[0..a],
-        &mut second[0..b],
+    let Buffers {
+        first,
+        second,
         words,
         others,
-        &mut space[0..room],
+        out,
         bytes,
-    )
+    } = buffers;
+    input.read_exact(&mut first[..a])?;
+    input.read_exact(&mut second[..b])?;
+    files::decode(&first[..a], words);
+    files::decode(&second[..b], others);
+    respond(
+        output,
+        &q,
+        &first[..a],
+        &words[..a / 4],
+        &others[..b / 4],
+        &mut out[..room],
+        bytes,
+    );
+    Ok(())
 }
 
 // The buffers are made once: to clear them for each request would take most of its time.
@@ -574,21 +435,20 @@ fn main(rt: HostRuntime) {
     let mut second = [0u8; MAX_PAYLOAD];
     let mut words = [0u32; MAX_OUTPUT];
     let mut others = [0u32; MAX_OUTPUT];
-    let mut space = [0u32; MAX_OUTPUT];
+    let mut out = [0u32; MAX_OUTPUT];
     let mut bytes = [0u8; MAX_PAYLOAD];
     let mut input = rt.reader();
     let mut output = io::writer(&rt);
     for _ in 0..u64::MAX {
-        if !serve(
-            &mut input,
-            &mut output,
-            &mut first,
-            &mut second,
-            &mut words,
-            &mut others,
-            &mut space,
-            &mut bytes,
-        ) {
+        let buffers = Buffers {
+            first: &mut first,
+            second: &mut second,
+            words: &mut words,
+            others: &mut others,
+            out: &mut out,
+            bytes: &mut bytes,
+        };
+        if serve(&mut input, &mut output, buffers).is_err() {
             break;
         }
     }

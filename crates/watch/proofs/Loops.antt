@@ -1,45 +1,23 @@
 -- A search along a list, and a list changed element by element, as loops go. Assumes nothing.
-use Prim.Native.Nat.{ℕ, suc, ◌+◌, ◌≤◌, ◌<◌}
-use mathlib.Core.Path.{◌≡◌, refl, sym, ap, ◌∙◌}
-use mathlib.Core.Bool.{Bool, true, false}
+use Prim.Native.Nat.{ℕ, suc, ◌+◌, ◌-◌, ◌≤◌, ◌<◌}
+use mathlib.Core.Path.{◌≡◌, refl, sym, ◌∙◌}
+use mathlib.Core.Bool.{true, false}
 use mathlib.Core.List.{List, [], ◌∷◌, ◌++◌, append_assoc}
 use native.Mathlib.Omega.{arith}
 use native.Mathlib.Numerals.{add-one}
-use lib.ListN.{length, get_or, take, drop, set, drop_of_length-le}
+use lib.ListN.{length, get_or, take, drop, set, drop_of_length-le, length-drop}
 use lib.Seq.{drop-cons, take-suc, take_all, set_at, length-take-le}
 use borrow.Author.Tests.{eq-eqb, ne_eqb, ltb-true}
-use Rattle.watch.proofs.Tests.{length-changed}
+use Rattle.watch.proofs.Tests.{length-changed, by_cases}
+use lib.Dec.{eqb, ltb}
+use Rattle.std.specs.Prelude.{Some, None}
+use Rattle.std.specs.List.{position_or_len}
+use Rattle.std.proofs.lemmas.Option.{cond_some}
 use Rattle.watch.specs.History.{changed, some}
-use Rattle.sheet.specs.declared.Place.{Place}
 use Rattle.watch.specs.WatchTable.{free_at, free_place, doubled, names_folio}
 use Rattle.watch.specs.declared.Emergency.{Emergency}
 
-module _ {A : Type 0} (t : A → Bool) (l : List A) (i : ℕ) where
-  pub some_end : length l ≤ i → some t (drop i l) ≡ false
-  unfolding some
-  some_end h = rw (drop_of_length-le l h) refl
-
-  pub some-hit : (d : A) → i < length l → t (get_or l i d) ≡ true → some t (drop i l) ≡ true
-  unfolding some
-  some-hit d h e = rw (drop-cons l i d h, e) refl
-
-  pub some-miss : (d : A) → i < length l → t (get_or l i d) ≡ false → some t (drop i l) ≡ some t (drop (i + 1) l)
-  unfolding some
-  some-miss d h e = rw (add-one i, drop-cons l i d h, e) refl
-
 module _ (l : List Emergency) (i : ℕ) where
-  pub free-end : length l ≤ i → free_at (drop i l) ≡ 0
-  unfolding free_at
-  free-end h = rw (drop_of_length-le l h) refl
-
-  pub free-hit : (d : Emergency) → i < length l → (get_or l i d).mark ≡ 0 → free_at (drop i l) ≡ 0
-  unfolding free_at
-  free-hit d h e = rw (drop-cons l i d h, eq-eqb _ _ e) refl
-
-  pub free-miss : (d : Emergency) → i < length l → ((get_or l i d).mark ≡ 0 → ⊥) → free_at (drop i l) ≡ suc (free_at (drop (i + 1) l))
-  unfolding free_at
-  free-miss d h e = rw (add-one i, drop-cons l i d h, ne_eqb _ _ e) refl
-
   pub doubled-end : length l ≤ i → doubled (drop i l) ≡ false
   unfolding doubled
   doubled-end h = rw (drop_of_length-le l h) refl
@@ -56,10 +34,26 @@ module _ (l : List Emergency) (i : ℕ) where
   unfolding doubled
   doubled-miss d h e g = rw (add-one i, drop-cons l i d h, ne_eqb _ _ e, rw (add-one i) at g) refl
 
--- a place that was found is one of the table's
-pub free-room : (l : List Emergency) (p : Place) → p ≡ free_place l → p.found ≡ true → p.row < 32
-unfolding free_place
-free-room l p e y = omega (arith, ltb-true (free_at l) 32 (sym (ap (λ (q : Place). q.found) e) ∙ y), ap (λ (q : Place). q.row) e)
+-- the places from i on, as the code takes them
+pub rest-is : (l : List Emergency) (i : ℕ) → length l ≡ 32 → take (32 - i) (drop i l) ≡ drop i l
+rest-is l i e = take_all (32 - i) (drop i l) (omega (arith, length-drop i l, e))
+
+free-is : (ps : List Emergency) → free_at ps ≡ position_or_len (λ (p : Emergency). eqb p.mark 0) ps
+unfolding free_at
+free-is [] = refl
+free-is (p ∷ ps) = by_cases (eqb p.mark 0) (λ e. rw e refl) (λ e. rw e (omega (arith, free-is ps)))
+
+-- an empty place that was found is the first, and one of the table's
+pub free-some : (ps : List Emergency) (i : ℕ) → length ps ≡ 32 → Some i ≡ free_place ps → (i < 32) × (free_at ps ≡ i)
+free-some ps i l e =
+    let p : (ltb (position_or_len (λ (q : Emergency). eqb q.mark 0) ps) (length ps) ≡ true) × (position_or_len (λ (q : Emergency). eqb q.mark 0) ps ≡ i) = cond_some _ _ _ (sym e) in
+    (omega (arith, ltb-true _ _ p.0, p.1, l), free-is ps ∙ p.1)
+
+pub free-none : (ps : List Emergency) → length ps ≡ 32 → None ≡ free_place ps → ltb (free_at ps) 32 ≡ false
+free-none ps l e =
+    by_cases (ltb (position_or_len (λ (q : Emergency). eqb q.mark 0) ps) (length ps))
+    (λ t. let z = rw t at e in cc)
+    (λ f. rw (free-is ps, ← l) f)
 
 changed-append : {A : Type 0} (f : A → A) (xs ys : List A) → changed f (xs ++ ys) ≡ changed f xs ++ changed f ys
 changed-append f [] ys = refl

@@ -13,7 +13,7 @@ use Rattle.watch.specs.WatchTable.{covers_minute, names_folio, place_held, empty
 use Rattle.watch.specs.declared.TraceRow.{TraceRow}
 use Rattle.watch.specs.declared.Emergency.{Emergency}
 use Rattle.watch.specs.declared.Watch.{Watch}
-use Rattle.watch.specs.declared.Moved.{Moved}
+use Rattle.watch.specs.WatchTable.{Moved}
 use Rattle.paths.proofs.Tests.{and_left}
 use Rattle.watch.proofs.Tests.{length-changed, by_cases, true-and-false}
 use Rattle.watch.proofs.Past.{starts-true, starts-kind, starts_is, ends-kind, held-end, held_on, last_on, held-listed, held-once}

@@ -14,7 +14,7 @@ use Rattle.watch.specs.Trace.{row_of_words, stepped_on}
 use Rattle.watch.specs.declared.TraceRow.{TraceRow}
 use Rattle.watch.specs.declared.Emergency.{Emergency}
 use Rattle.watch.specs.declared.Watch.{Watch}
-use Rattle.watch.specs.declared.Moved.{Moved}
+use Rattle.watch.specs.WatchTable.{Moved}
 use Rattle.watch.proofs.Tests.{by_cases}
 use Rattle.watch.proofs.Standing.{advanced-keeps}
 

@@ -5,8 +5,11 @@ use mathlib.Core.Bool.{Bool, true, false, ◌||◌, true≢false, or_assoc}
 use mathlib.Core.List.{List, [], ◌∷◌, ◌++◌}
 use lib.Dec.{eqb}
 use lib.ListN.{length}
-use borrow.Author.Tests.{eq-eqb}
+use borrow.Author.Tests.{lt-ltb, le-ltb, eq-eqb, ne_eqb}
 use Rattle.watch.specs.History.{changed, some}
+
+-- a comparison in the code as a test of the definitions
+pub ruleset compared = (lt-ltb, le-ltb, eq-eqb, ne_eqb)
 
 pub by_cases : {A : Type 0} (b : Bool) → (b ≡ true → A) → (b ≡ false → A) → A
 by_cases true t f = t refl

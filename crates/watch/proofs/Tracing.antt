@@ -14,8 +14,8 @@ use Rattle.watch.specs.WatchTable.{advanced, TableStands, empty_watch}
 use Rattle.watch.specs.Trace.{row_of_words, TraceQuestion, Run, question_in, asks, after_questions, next_routed, cut_short_run, run_from, counted_trace}
 use Rattle.watch.specs.declared.TraceRow.{TraceRow}
 use Rattle.watch.specs.declared.Watch.{Watch}
-use Rattle.watch.specs.declared.Routed.{Routed}
-use Rattle.watch.specs.declared.Moved.{Moved}
+use Rattle.watch.specs.History.{Routed}
+use Rattle.watch.specs.WatchTable.{Moved}
 use Rattle.watch.proofs.Tests.{by_cases}
 use Rattle.watch.proofs.Standing.{advanced-right, empty-watch-stands}
 
@@ -44,6 +44,14 @@ asks_none r t e = rw (eq-eqb _ _ e) (refl, refl)
 pub asks-one : (r : TraceRow) (t : Routed) → (t.offices ≡ 0 → ⊥) → (question_in r t ≡ record { row = r; offices = t.offices } ∷ []) × (asks t ≡ 1)
 unfolding question_in asks
 asks-one r t e = rw (ne_eqb _ _ e) (refl, refl)
+
+-- the row at the front of the words from i on
+trace_row_behind : (ws : List ℕ) (i : ℕ) → i + 5 ≤ length ws → row_of_words (take 5 (drop i ws)) 0 ≡ row_of_words ws i
+unfolding row_of_words
+trace_row_behind ws i l = rw (five ws i l) refl
+
+past_row : (ws : List ℕ) (i : ℕ) → i + 5 ≤ length ws → drop 5 (drop i ws) ≡ drop (i + 5) ws
+past_row ws i l = rw (five ws i l) refl
 
 pub grown-on : (timeout : ℕ) (h : List TraceRow) (r : TraceRow) → (routed h r timeout).number ≡ 0 → grown h r timeout ≡ h ++ (r ∷ [])
 unfolding grown routed
@@ -153,3 +161,43 @@ module _ (timeout : ℕ) where
               let rest = (run_from timeout (g.history ++ (row_of_words rows i ∷ [])) (drop (i + 5) rows)).questions in
               rw (so, eq-eqb m.routed.number 0 running-goes)
               (omega (arith, g.many, asks-questions (row_of_words rows i) m.routed, length-append g.questions (question_in (row_of_words rows i) m.routed ++ rest), length-append (question_in (row_of_words rows i) m.routed) rest))
+
+    -- the same where `rest` are the words not yet read
+    pub record Behind (w : Watch) (rest : List ℕ) (count : ℕ) : Type 0 where
+      pub at : ℕ
+      pub is : rest ≡ drop at rows
+      pub inside : at ≤ length rows
+      pub few : count ≤ at
+      pub running : Running w at count
+
+    pub behind-start : (w : Watch) → w ≡ empty_watch → Behind w rows 0
+    behind-start w e = record { at = 0; is = refl; inside = omega arith; few = omega arith; running = rw e running-start }
+
+    module _ (w : Watch) (rest : List ℕ) (count : ℕ) (g : Behind w rest count) where
+      read-so-far : length rest + g.at ≡ length rows
+      read-so-far = omega (arith, ap (λ (l : List ℕ). length l) g.is, length-drop g.at rows, g.inside)
+
+      pub behind-end : length rest ≡ 0 → record { number = 0; count = count } ≡ counted_trace whole
+      behind-end z = running-end w g.at count g.running (omega (arith, read-so-far, z))
+
+      pub behind-cut : 0 < length rest → length rest < 5 → record { number = 54; count = 0 } ≡ counted_trace whole
+      behind-cut a b = running-cut w g.at count g.running (omega (arith, read-so-far, a)) (omega (arith, read-so-far, b))
+
+      module _ (m : Moved) (row : List ℕ) (long : 5 ≤ length rest) (cut : row ≡ take 5 rest) (e : m ≡ advanced w timeout (row_of_words row 0)) where
+        whole-row : g.at + 5 ≤ length rows
+        whole-row = omega (arith, read-so-far, long)
+
+        told : m ≡ advanced w timeout (row_of_words rows g.at)
+        told = rw (← (trace_row_behind rows g.at whole-row), ← g.is, ← cut) e
+
+        pub behind-refused : (m.routed.number ≡ 0 → ⊥) → record { number = m.routed.number; count = 0 } ≡ counted_trace whole
+        behind-refused n = running-refused w g.at count g.running m whole-row told n
+
+        pub behind-next : (later : List ℕ) (n : ℕ) → later ≡ drop 5 rest → m.routed.number ≡ 0 → n ≡ count + asks m.routed → Behind m.watch later n
+        behind-next later n d z s = record {
+          at = g.at + 5;
+          is = rw (d, g.is) (past_row rows g.at whole-row);
+          inside = whole-row;
+          few = omega (arith, s, asks-few m.routed, g.few);
+          running = rw s (running-next w g.at count g.running m whole-row told z);
+        }

@@ -1,9 +1,11 @@
 -- Emergencies by the whole history of rows, earliest first: which start rows hold a folio, whether it is open, how many are held, and what a row is told. No table occurs here.
 -- Assumes nothing.
 use Rattle.std.specs.Prelude.{ℕ, suc, ◌+◌, ◌<◌, ◌≡◌, Bool, true, false, cond, not, ◌&&◌, ◌||◌, List, [], ◌∷◌, ◌++◌, length}
+use Rattle.std.specs.List.{list_any}
 use Rattle.sheet.specs.Refusals.{◌is◌, ◌below◌, ◌when◌otherwise◌}
 use Rattle.watch.specs.declared.TraceRow.{TraceRow}
-use Rattle.watch.specs.declared.Routed.{Routed}
+use Rattle.watch.specs.declared.RowKind.{RowKind}
+use Rattle.watch.specs.declared.RowKind.TheVariants.{Start, End, Question}
 
 -- a row's kinds
 abbrev pub start_kind : ℕ
@@ -15,6 +17,17 @@ end_kind = 2
 abbrev pub question_kind : ℕ
 question_kind = 3
 
+-- .. as the code has them
+abbrev pub kind_number : RowKind → ℕ
+kind_number Start = start_kind
+kind_number End = end_kind
+kind_number Question = question_kind
+
+-- what a row is told: a refusal's number or 0, and how many offices its question goes to
+pub record Routed : Type 0 where
+  pub number : ℕ
+  pub offices : ℕ
+
 -- at most so many folios are held
 abbrev pub max_held : ℕ
 max_held = 32
@@ -22,8 +35,7 @@ max_held = 32
 module _ {A : Type 0} where
   -- some element passes the test
   unfoldable pub some : (A → Bool) → List A → Bool
-  some test [] = false
-  some test (x ∷ xs) = test x || some test xs
+  some = list_any
 
   -- each element changed
   abbrev pub changed : (A → A) → List A → List A

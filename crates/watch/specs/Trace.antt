@@ -1,14 +1,13 @@
 -- Rows as words: one row put to any table, and a whole trace by the history of its rows.
 -- Assumes nothing.
-use Rattle.std.specs.Prelude.{ℕ, ◌+◌, cond, List, [], ◌∷◌, ◌++◌, length, get_or}
+use Rattle.std.specs.Prelude.{ℕ, ◌+◌, cond, List, [], ◌∷◌, ◌++◌, length, get_or, Result, Ok, Err}
+use Rattle.sheet.specs.declared.fault.Fault.{Fault}
+use Rattle.sheet.specs.FaultNumbers.{fault_number}
 use Rattle.sheet.specs.Refusals.{◌is◌}
-use Rattle.watch.specs.History.{routed}
-use Rattle.watch.specs.WatchTable.{doubled, refused_row, advanced}
+use Rattle.watch.specs.History.{Routed, routed}
+use Rattle.watch.specs.WatchTable.{Moved, doubled, refused_row, advanced}
 use Rattle.watch.specs.declared.TraceRow.{TraceRow}
-use Rattle.watch.specs.declared.Routed.{Routed}
 use Rattle.watch.specs.declared.Watch.{Watch}
-use Rattle.watch.specs.declared.Moved.{Moved}
-use Rattle.watch.specs.declared.CountedTrace.{CountedTrace}
 
 -- the row of five words from i on
 unfoldable pub row_of_words : List ℕ → ℕ → TraceRow
@@ -58,6 +57,16 @@ run_from timeout h (m ∷ k ∷ f ∷ p ∷ []) = cut_short_run
 run_from timeout h (m ∷ k ∷ f ∷ p ∷ d ∷ ws) =
     let r : TraceRow = record { minute = m; kind = k; folio = f; person = p; deed = d } in
     next_routed r (routed h r timeout) (run_from timeout (h ++ (r ∷ [])) ws)
+
+-- a whole trace's refusal, or number 0 and how many questions it asks
+pub record CountedTrace : Type 0 where
+  pub number : ℕ
+  pub count : ℕ
+
+-- .. as the code tells it
+abbrev pub told_count : Result ℕ Fault → CountedTrace
+told_count (Ok n) = record { number = 0; count = n }
+told_count (Err f) = record { number = fault_number f; count = 0 }
 
 -- the number, and how many questions a trace that is not refused asks
 unfoldable pub counted_trace : Run → CountedTrace

@@ -1,13 +1,27 @@
 -- The table of open emergencies: what its places say, the table after a row, and which history it stands for.
 -- Assumes nothing.
-use Rattle.std.specs.Prelude.{ℕ, suc, ◌+◌, ◌≤◌, ◌≡◌, Bool, true, false, cond, ◌||◌, List, [], ◌∷◌, length, set, replicate}
-use Rattle.sheet.specs.declared.Place.{Place}
+use Rattle.std.specs.Prelude.{ℕ, suc, ◌+◌, ◌≤◌, ◌≡◌, Bool, true, false, cond, ◌||◌, List, [], ◌∷◌, length, set, replicate, Option, position, Result, Ok, Err}
+use Rattle.sheet.specs.declared.fault.Fault.{Fault}
+use Rattle.sheet.specs.FaultNumbers.{fault_number}
 use Rattle.sheet.specs.Refusals.{◌is◌, ◌below◌}
-use Rattle.watch.specs.History.{changed, start_kind, end_kind, max_held, some, bad_row, offices_for, held_before, last_minute}
+use Rattle.watch.specs.History.{changed, start_kind, end_kind, max_held, some, Routed, bad_row, offices_for, held_before, last_minute}
 use Rattle.watch.specs.declared.TraceRow.{TraceRow}
 use Rattle.watch.specs.declared.Emergency.{Emergency}
 use Rattle.watch.specs.declared.Watch.{Watch}
-use Rattle.watch.specs.declared.Moved.{Moved}
+
+-- the table after a row, and what the row is told
+pub record Moved : Type 0 where
+  pub watch : Watch
+  pub routed : Routed
+
+-- .. as the code tells it: how many offices, or what refuses the row
+abbrev pub told_row : Result ℕ Fault → Routed
+told_row (Ok n) = record { number = 0; offices = n }
+told_row (Err f) = record { number = fault_number f; offices = 0 }
+
+-- .. of the table that it leaves
+abbrev pub moved : Watch → Result ℕ Fault → Moved
+moved w r = record { watch = w; routed = told_row r }
 
 -- a start at minute m, before `bound`, holds at minute t
 unfoldable pub covers_minute : ℕ → ℕ → ℕ → ℕ → Bool
@@ -44,9 +58,9 @@ unfoldable pub free_at : List Emergency → ℕ
 free_at [] = 0
 free_at (p ∷ ps) = cond (p.mark is 0) 0 (suc (free_at ps))
 
--- .. as a search tells it
-unfoldable pub free_place : List Emergency → Place
-free_place ps = record { found = free_at ps below max_held; row = free_at ps }
+-- .. as a search tells it, none where there is none
+abbrev pub free_place : List Emergency → Option ℕ
+free_place ps = position (λ p. p.mark is 0) ps
 
 -- some folio is named in two places
 unfoldable pub doubled : List Emergency → Bool

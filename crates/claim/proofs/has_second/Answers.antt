@@ -1,41 +1,20 @@
-use mathlib.Core.Path.{refl, sym, ◌∙◌}
+use Prim.Native.Nat.{◌+◌, ◌-◌, ◌*◌}
+use mathlib.Core.Path.{◌≡◌, refl, sym, ◌∙◌}
 use native.Mathlib.Omega.{arith}
-use borrow.Author.Rules.{rules}
-use Rattle.claim.proofs.Listing.{second-by, second_none}
+use Rattle.claim.proofs.Listing.{second_next}
 use Rattle.claim.proofs.has_second.Goals as goal
 
-pub loop-left-init : goal.loop-left-init
-loop-left-init c = (c.requires, refl)
-
-pub bounds-list-at : goal.bounds-list-at
-bounds-list-at c = let l = c.loop-left.invariant.0 in
-    let t = c.loop-left-test.true in
-    omega arith
+pub loop-k-init : goal.loop-k-init
+loop-k-init c =
+    let a : c.args.from + 2 * 0 ≡ c.args.from = omega arith in
+    let b : c.args.m - 0 ≡ c.args.m = omega arith in
+    rw (a, b) refl
 
 pub returns-then-c-list : goal.returns-then-c-list
-returns-then-c-list c = let L = c.loop-left in
-    sym (L.invariant.1 ∙ second-by _ _ _ _ _ _ c.loop-left-test.true c.if-c-list.true)
+returns-then-c-list c = sym (c.loop-k.invariant ∙ second_next _ _ _ _ _ _ _ c.loop-k-test.true c.if-c-list.true)
 
-pub overflow_add-at : goal.overflow_add-at
-overflow_add-at c = let l = c.loop-left.invariant.0 in
-    let t = c.loop-left-test.true in
-    search rules
-
-pub overflow_sub-left : goal.overflow_sub-left
-overflow_sub-left c = let t = c.loop-left-test.true in
-    omega arith
-
-pub loop-left-smaller : goal.loop-left-smaller
-loop-left-smaller c = let t = c.loop-left-test.true in
-    omega arith
-
-pub loop-left-preserved : goal.loop-left-preserved
-loop-left-preserved c = let L = c.loop-left in
-    let l = L.invariant.0 in
-    let t = c.loop-left-test.true in
-    (omega arith, L.invariant.1 ∙ second-by _ _ _ _ _ _ t c.if-c-list.false)
+pub loop-k-preserved : goal.loop-k-preserved
+loop-k-preserved c = c.loop-k.invariant ∙ second_next _ _ _ _ _ _ _ c.loop-k-test.true c.if-c-list.false
 
 pub returns : goal.returns
-returns c = let L = c.loop-left in
-    let t = c.loop-left-test.false in
-    sym (L.invariant.1 ∙ second_none _ _ _ _ _ t)
+returns c = let z : c.args.m - c.loop-k.k ≡ 0 = omega (arith, c.loop-k-test.false) in sym (rw z at c.loop-k.invariant)

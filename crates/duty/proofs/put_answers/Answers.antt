@@ -1,34 +1,56 @@
-use mathlib.Core.Path.{ap, ◌∙◌}
-use lib.Seq.{length-sets}
-use Rattle.watch.specs.declared.Moved.{Moved}
+use Prim.Native.Nat.{ℕ, ◌*◌, ◌+◌, ◌≤◌}
+use mathlib.Core.Path.{◌≡◌, sym, ap, ◌∙◌}
+use mathlib.Core.List.{[], ◌∷◌, ◌++◌}
+use lib.ListN.{length, length-append, length-drop}
 use native.Mathlib.Omega.{arith}
-use lib.ListN.{length}
 use Rattle.sheet.specs.Named.{seen_at}
+use Rattle.watch.specs.WatchTable.{Moved, moved}
+use Rattle.watch.specs.Trace.{row_of_words}
 use Rattle.watch.proofs.Stepping.{advanced-few}
-use Rattle.watch.proofs.Tracing.{running-room}
-use Rattle.duty.proofs.Answers.{putting-start, putting-end, putting-fits, putting-next}
+use Rattle.duty.proofs.Answers.{putting-start, putting-done, putting-fits, putting-next, front-room, front-rest, front-row, goes-to, asks-same, questions-same}
 use Rattle.duty.proofs.put_answers.Goals as goal
+use Rattle.duty.proofs.put_answers.Goals.{After-advance}
 
-pub loop-i-init : goal.loop-i-init
-loop-i-init c = (omega arith, putting-start _ c.args.timeout c.args.rows.now _ _ c.empty_watch-w.ensures)
+pub loop-words-init : goal.loop-words-init
+loop-words-init c = let e = c.into_iter-words-iterator.ensures.into_iter_gives in record {
+  fives = rw e c.chunks_exact-words-items.ensures.size;
+  left = rw e (sym c.chunks_exact-words-items.ensures.rest);
+  putting = putting-start _ c.args.timeout c.args.rows.now _ _ c.empty_watch-watch.ensures;
+}
 
-pub read_row-row-requires : goal.read_row-row-requires
-read_row-row-requires c = running-room c.args.timeout c.args.rows.now c.loop-i.w c.loop-i.i c.loop-i.count c.loop-i.invariant.1.run c.requires.1 c.loop-i-test.true
+room : (c : After-advance) → 5 * length c.loop-words.yielded + 5 ≤ length c.args.rows.now
+room c = let s = c.in-Some.ensures.steps in front-room _ _ _ _ (c.loop-words.invariant.left ∙ s.1.0) (s.1.1 ∙ c.loop-words.invariant.fives)
+
+row : (c : After-advance) → c.read_row-row.result ≡ row_of_words c.args.rows.now (5 * length c.loop-words.yielded)
+row c = let s = c.in-Some.ensures.steps in c.read_row-row.ensures ∙ front-row _ _ _ _ (c.loop-words.invariant.left ∙ s.1.0) (s.1.1 ∙ c.loop-words.invariant.fives)
 
 pub put_answer-count-requires : goal.put_answer-count-requires
-put_answer-count-requires c = (c.requires.0, omega (arith, ap (λ (m : Moved). m.routed.offices) c.advance-m.ensures, advanced-few c.loop-i.w c.args.timeout c.read_row-row.result), putting-fits (seen_at c.args.sheet.now) c.args.timeout c.args.rows.now c.args.out.now c.loop-i.w c.loop-i.i c.loop-i.count c.loop-i.out c.loop-i.invariant.1 c.advance-m.result (running-room c.args.timeout c.args.rows.now c.loop-i.w c.loop-i.i c.loop-i.count c.loop-i.invariant.1.run c.requires.1 c.loop-i-test.true) (rw c.read_row-row.ensures at c.advance-m.ensures) c.requires.1 c.requires.2)
+put_answer-count-requires c =
+    let k = (goal.at.put_answer-count-requires c).After-advance in
+    let e = c.advance.ensures in
+    let u = c.unwrap_or-offices.ensures in (
+      omega (arith, goes-to c.advance.new.watch c.advance.result _ u, ap (λ (m : Moved). m.routed.offices) e, advanced-few c.loop-words.watch c.args.timeout c.read_row-row.result),
+      rw (asks-same c.advance.new.watch c.advance.result _ u) (putting-fits (seen_at c.args.sheet.now.words.now) c.args.timeout c.args.rows.now c.args.out.now _ _ _ _ c.loop-words.invariant.putting (moved c.advance.new.watch c.advance.result) (room k) (rw (row k) at e) c.requires.0 c.requires.1),
+    )
 
-pub overflow_add-i : goal.overflow_add-i
-overflow_add-i c = omega (arith, running-room c.args.timeout c.args.rows.now c.loop-i.w c.loop-i.i c.loop-i.count c.loop-i.invariant.1.run c.requires.1 c.loop-i-test.true)
-
-pub loop-i-smaller : goal.loop-i-smaller
-loop-i-smaller c = omega (arith, c.loop-i-test.true)
-
-pub loop-i-preserved : goal.loop-i-preserved
-loop-i-preserved c = let l = running-room c.args.timeout c.args.rows.now c.loop-i.w c.loop-i.i c.loop-i.count c.loop-i.invariant.1.run c.requires.1 c.loop-i-test.true in (l, putting-next (seen_at c.args.sheet.now) c.args.timeout c.args.rows.now c.args.out.now c.loop-i.w c.loop-i.i c.loop-i.count c.loop-i.out c.loop-i.invariant.1 c.advance-m.result l (rw c.read_row-row.ensures at c.advance-m.ensures) c.requires.1 _ _ c.put_answer-count.ensures.0 (rw c.read_row-row.ensures at c.put_answer-count.ensures.1))
-
-pub shape_of-out : goal.shape_of-out
-shape_of-out c = ap length c.loop-i.invariant.1.holds ∙ length-sets c.args.out.now 0 c.loop-i.invariant.1.answers
+pub loop-words-preserved : goal.loop-words-preserved
+loop-words-preserved c =
+    let k = (goal.at.loop-words-preserved c).After-advance in
+    let s = c.in-Some.ensures.steps in
+    let I = c.loop-words.invariant in
+    let u = c.unwrap_or-offices.ensures in
+    let e : 5 * length c.loop-words.yielded + 5 ≡ 5 * length (c.loop-words.yielded ++ (c.in-Some.words ∷ [])) = omega (arith, length-append c.loop-words.yielded (c.in-Some.words ∷ [])) in
+    rw (← e) record {
+      fives = s.0 ∙ I.fives;
+      left = sym (front-rest c.args.rows.now c.in-Some.words.now c.next.new.self.rest.now (5 * length c.loop-words.yielded) (I.left ∙ s.1.0) (s.1.1 ∙ I.fives));
+      putting = putting-next (seen_at c.args.sheet.now.words.now) c.args.timeout c.args.rows.now c.args.out.now _ _ _ _ I.putting (moved c.advance.new.watch c.advance.result) (room k) (rw (row k) at c.advance.ensures) c.requires.0 _ _
+          (c.put_answer-count.ensures.0 ∙ ap (λ (x : ℕ). c.loop-words.count + x) (asks-same c.advance.new.watch c.advance.result _ u))
+          (rw (row k, questions-same c.advance.new.watch c.advance.result _ u (row_of_words c.args.rows.now (5 * length c.loop-words.yielded))) at c.put_answer-count.ensures.1);
+    }
 
 pub returns : goal.returns
-returns c = putting-end (seen_at c.args.sheet.now) c.args.timeout c.args.rows.now c.args.out.now c.loop-i.w c.loop-i.i c.loop-i.count c.loop-i.out c.loop-i.invariant.1 (omega arith)
+returns c =
+    let s = c.in-None.ensures.steps in
+    let I = c.loop-words.invariant in
+    putting-done (seen_at c.args.sheet.now.words.now) c.args.timeout c.args.rows.now c.args.out.now _ _ _ _ I.putting c.requires.0
+    (omega (arith, s.1.0, I.fives, ap length I.left, length-drop (5 * length c.loop-words.yielded) c.args.rows.now))

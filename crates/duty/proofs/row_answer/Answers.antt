@@ -1,27 +1,14 @@
 use native.Mathlib.Omega.{arith}
+use Rattle.ask.proofs.Jointly.{is-determined, is-undetermined}
 use Rattle.duty.proofs.Answers.{desk-next, desk-stops, desk-down}
 use Rattle.duty.proofs.row_answer.Goals as goal
 
-pub loop-k-init : goal.loop-k-init
-loop-k-init c = (omega arith, λ r x. x)
+pub returns-then-ne : goal.returns-then-ne
+returns-then-ne c = rw c.into.ensures
+    (c.loop-office.invariant _ (desk-stops _ _ _ _ c.loop-office.office (omega arith) (omega arith) _ (rw c.seat_at.ensures.0 at c.office_answer-answer.ensures) (is-determined _ _ c.ne.ensures c.if-ne.true)))
 
-pub seat_at-seat-requires : goal.seat_at-seat-requires
-seat_at-seat-requires c = (c.loop-k-test.true, omega (arith, c.loop-k.invariant.0, c.requires.1))
-
-pub office_answer-r-requires : goal.office_answer-r-requires
-office_answer-r-requires c = record { formed = c.requires.0; seated = c.seat_at-seat.ensures.1 }
-
-pub returns-then-r-ne0 : goal.returns-then-r-ne0
-returns-then-r-ne0 c = c.loop-k.invariant.1 _ (desk-stops _ _ _ _ c.loop-k.k c.loop-k-test.true (omega (arith, c.loop-k.invariant.0, c.requires.1)) _ (rw c.seat_at-seat.ensures.0 at c.office_answer-r.ensures) c.if-r-ne0.true)
-
-pub overflow_sub-k : goal.overflow_sub-k
-overflow_sub-k c = omega arith
-
-pub loop-k-smaller : goal.loop-k-smaller
-loop-k-smaller c = omega arith
-
-pub loop-k-preserved : goal.loop-k-preserved
-loop-k-preserved c = (omega arith, λ r x. c.loop-k.invariant.1 r (desk-next _ _ _ _ c.loop-k.k c.loop-k-test.true (omega (arith, c.loop-k.invariant.0, c.requires.1)) r _ (rw c.seat_at-seat.ensures.0 at c.office_answer-r.ensures) c.if-r-ne0.false x))
+pub loop-office-preserved : goal.loop-office-preserved
+loop-office-preserved c = λ r x. c.loop-office.invariant r (desk-next _ _ _ _ c.loop-office.office (omega arith) (omega arith) r _ (rw c.seat_at.ensures.0 at c.office_answer-answer.ensures) (is-undetermined _ _ c.ne.ensures c.if-ne.false) x)
 
 pub returns : goal.returns
-returns c = c.loop-k.invariant.1 0 (desk-down _ _ _ _ c.loop-k.k (omega arith))
+returns c = rw c.into-2.ensures (c.loop-office.invariant 0 (desk-down _ _ _ _ c.loop-office.office (omega arith)))

@@ -1,42 +1,19 @@
-use Prim.Native.Nat.{ℕ}
 use mathlib.Core.List.{[], ◌∷◌}
-use mathlib.Core.Path.{refl, sym, ap, ◌∙◌}
+use mathlib.Core.Path.{refl}
 use native.Mathlib.Omega.{arith}
-use lib.ListN.{length-set}
-use borrow.Author.Rules.{rules}
 use Rattle.files.proofs.Words.{words_long, word_next}
 use Rattle.files.specs.Bytes.{words_of}
 use Rattle.sheet.proofs.Writing.{front-run, front-done}
 use Rattle.files.proofs.decode_all.Goals as goal
 
-pub loop-i-init : goal.loop-i-init
-loop-i-init c = (search rules, refl, refl)
-
-pub word_at-requires : goal.word_at-requires
-word_at-requires c = omega arith
-
-pub bounds-words-i : goal.bounds-words-i
-bounds-words-i c = omega arith
-
-pub loop-i-smaller : goal.loop-i-smaller
-loop-i-smaller c = omega arith
-
 pub loop-i-preserved : goal.loop-i-preserved
-loop-i-preserved c = let L = c.loop-i in
-    let S = c in
-    let bs = S.args.bytes.now in
-    let h = c.loop-i-test.true in (
-      omega arith,
-      simp length-set L.invariant.1,
-      front-run L.words S.args.words.now (words_of bs) L.i L.invariant.2 (c.word_at.result ∷ []) (omega (arith, S.requires)) (omega (arith, words_long bs))
-          (word_next bs L.i h ∙ ap (λ (w : ℕ). w ∷ []) (sym c.word_at.ensures)),
-    )
-
-pub shape_of-words : goal.shape_of-words
-shape_of-words c = c.loop-i.invariant.1
+loop-i-preserved c =
+    let n = words_long c.args.bytes.now in
+    let at = c.as_chunks.ensures in
+    front-run c.loop-i.words c.args.words.now (words_of c.args.bytes.now) c.loop-i.i c.loop-i.invariant (c.from_le_bytes.result ∷ []) (omega (arith, at.front_len, c.requires)) (omega (arith, at.front_len, n))
+    (word_next c.args.bytes.now _ c.loop-i.i refl (omega (arith, at.front_len)) [] c.from_le_bytes.result (rw at.front at c.from_le_bytes.ensures))
 
 pub returns : goal.returns
-returns c = let L = c.loop-i in
-    let S = c in
-    let n = words_long S.args.bytes.now in
-    front-done L.words S.args.words.now (words_of S.args.bytes.now) L.i L.invariant.2 (omega arith) (omega arith)
+returns c =
+    let n = words_long c.args.bytes.now in
+    front-done c.loop-i.words c.args.words.now (words_of c.args.bytes.now) c.loop-i.i c.loop-i.invariant (omega (arith, c.as_chunks.ensures.front_len)) (omega (arith, c.as_chunks.ensures.front_len))

@@ -1,26 +1,33 @@
 -- `find::find_in` meets its contract: what the search tells, after the check.
-use mathlib.Core.Path.{refl}
-use native.Mathlib.Omega.{arith}
-use Rattle.sheet.proofs.Forming.{passed-long, passed-whole}
-use Rattle.sheet.proofs.Reading.{half-formed}
+use Rattle.std.proofs.Common.{ℕ, List, Ok, Err, ap, refl, arith}
+use Rattle.std.proofs.lemmas.Result.{err_from_is_err_and}
+use Rattle.std.specs.Borrow.{Bor}
+use Rattle.sheet.specs.Rows.{row_key}
 use Rattle.question.proofs.Telling.{refuses}
 use Rattle.find.proofs.Finding.{place-told, row_fits}
 use Rattle.find.proofs.find_in.Goals as goal
+use Rattle.find.proofs.find_in.Goals.{in-Ok, in-Err}
 
-pub returns-then-r-ne0 : goal.returns-then-r-ne0
-returns-then-r-ne0 c = refuses _ _ _ _ c.check-r.ensures c.if-r-ne0.true c.refused.ensures
+pub returns-in_err-sheet : goal.returns-in_err-sheet
+returns-in_err-sheet c =
+    let p = err_from_is_err_and c.from_residual.result c.from_residual.ensures.1 in
+    let e = c.in_err-sheet.ensures.err in
+    rw (p.1, p.2) (refuses _ _ _ _ e.0 e.1 refl)
 
-pub header_of-h-requires : goal.header_of-h-requires
-header_of-h-requires c = passed-long _ _ _ c.check-r.ensures c.if-r-ne0.false
-
-pub find_row-p-requires : goal.find_row-p-requires
-find_row-p-requires c = half-formed _ _ (passed-whole _ _ _ c.check-r.ensures c.if-r-ne0.false _ c.header_of-h.ensures _ refl) c.args.half
-
-pub overflow_cast-row : goal.overflow_cast-row
-overflow_cast-row c = omega (arith, row_fits c.args.half _ _ _ _ (half-formed _ _ (passed-whole _ _ _ c.check-r.ensures c.if-r-ne0.false _ c.header_of-h.ensures _ refl) c.args.half) c.find_row-p.ensures)
-
-pub returns-then-p : goal.returns-then-p
-returns-then-p c = place-told c.args.half _ _ _ _ _ _ _ c.header_of-h.ensures c.find_row-p.ensures c.if-p.true c.check-r.ensures c.if-r-ne0.false c.told.ensures
+pub overflow_cast-result : goal.overflow_cast-result
+overflow_cast-result c =
+    let w = c.in_ok-sheet.sheet.formed in
+    elim c.match-find.branch [
+      | in-Ok b ↦ rw b.value-is (omega (arith, row_fits c.args.half c.args.words.now (row_key c.args.wanted) _ _ _ (Ok b.in-Ok.row) w b.in-Ok.ensures))
+      | in-Err b ↦ rw b.value-is (omega (arith, row_fits c.args.half c.args.words.now (row_key c.args.wanted) _ _ _ (Err b.in-Err.row) w b.in-Err.ensures))
+    ]
 
 pub returns : goal.returns
-returns c = place-told c.args.half _ _ _ _ _ _ _ c.header_of-h.ensures c.find_row-p.ensures c.if-p.false c.check-r.ensures c.if-r-ne0.false c.told-2.ensures
+returns c =
+    let o = c.in_ok-sheet.ensures in
+    let w = c.in_ok-sheet.sheet.formed in
+    let d = ap (λ (x : Bor (List ℕ)). x.now) o.words in
+    elim c.match-find.branch [
+      | in-Ok b ↦ rw b.value-is (place-told c.args.half _ _ _ _ _ (Ok b.in-Ok.row) o.ok d w b.in-Ok.ensures)
+      | in-Err b ↦ rw b.value-is (place-told c.args.half _ _ _ _ _ (Err b.in-Err.row) o.ok d w b.in-Err.ensures)
+    ]

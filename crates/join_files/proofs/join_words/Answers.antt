@@ -1,5 +1,6 @@
 -- `join_files::join_words` meets its contract: it joins into words that have room for any sheet, and then writes their bytes or 25.
-use mathlib.Core.Path.{refl}
+use mathlib.Core.Path.{refl, sym}
+use lib.Seq.{length-take-le}
 use Rattle.join_files.proofs.Joining.{words-refused, part-fits, bytes-written, bytes-short}
 use Rattle.join_files.proofs.join_words.Goals as goal
 
@@ -9,7 +10,7 @@ returns-then-j-ne0 c = let S = c in
 
 pub slice_bounds-encode-end : goal.slice_bounds-encode-end
 slice_bounds-encode-end c = let S = c in
-    (part-fits S.args.first.now S.args.second.now _ _ _ refl c.join-j.ensures c.if-j-ne0.false)
+    sym (length-take-le c.join-j.result.words c.join-j.new.out (part-fits S.args.first.now S.args.second.now _ _ _ refl c.join-j.ensures c.if-j-ne0.false))
 
 pub returns-then-r-ne0 : goal.returns-then-r-ne0
 returns-then-r-ne0 c = let S = c in

@@ -6,4 +6,4 @@ pub returns-then-line-i : goal.returns-then-line-i
 returns-then-line-i c = passes-byte _ _ _ _ c.requires.0 c.requires.1 c.if-line-i.true
 
 pub returns : goal.returns
-returns c = passes-other _ _ _ _ c.requires.0 c.requires.1 _ c.stopped.ensures c.if-line-i.false
+returns c = passes-other _ _ _ c.args.so c.requires.0 c.requires.1 c.if-line-i.false

@@ -1,17 +1,28 @@
 -- `listing::read_sorted` meets its contract: 42 of the lines before the first own fault, then that fault, then 43, which is the order of the definition.
-use Rattle.listing.proofs.ReadingDone.{read-good-done}
-use Rattle.listing.proofs.Refused.{refuses-text, refused-42, refused-own, refused-43}
+use mathlib.Core.Path.{refl}
 use native.Mathlib.Omega.{arith}
+use Rattle.std.proofs.lemmas.Result.{err_from_is_err_and}
+use Rattle.listing.proofs.ReadingDone.{read-good-done}
+use Rattle.listing.proofs.Refused.{refuses-text, refused-42, refused-own, refused-43, line-fault-some}
 use Rattle.listing.proofs.read_sorted.Goals as goal
 
-pub returns-then-repeated : goal.returns-then-repeated
-returns-then-repeated c = refuses-text _ _ _ _ (refused-42 _ _ c.requires.0 _ c.first_repeated-repeated.ensures.first (c.first_repeated-repeated.ensures.met c.if-repeated.true)) (λ z. omega (arith, z)) c.refused_at.ensures
+pub returns-in-Some : goal.returns-in-Some
+returns-in-Some c = let a = c.in-Some.ensures in refuses-text _ _ _ _ (refused-42 _ _ c.requires _ a.1 a.0) (λ z. omega (arith, z)) refl
 
-pub returns-then-first-ne0 : goal.returns-then-first-ne0
-returns-then-first-ne0 c = refuses-text _ _ _ _ (refused-own _ _ c.requires.0 _ c.first_repeated-repeated.ensures.first (omega (arith, c.first_repeated-repeated.ensures.missed c.if-repeated.false)) c.if-first-ne0.true) c.if-first-ne0.true c.refused_at-then-first-ne0.ensures
+pub returns-in-Some-fault : goal.returns-in-Some-fault
+returns-in-Some-fault c =
+    let h = line-fault-some c.in-Some-fault.fault in
+    refuses-text _ _ _ _ (refused-own _ _ (rw c.in-Some-fault.is at c.requires) _ c.in_default.ensures (omega arith) h) h refl
 
-pub returns-then-lacking : goal.returns-then-lacking
-returns-then-lacking c = refuses-text _ _ _ _ (refused-43 _ _ c.requires.0 _ c.first_repeated-repeated.ensures.first (omega (arith, c.first_repeated-repeated.ensures.missed c.if-repeated.false)) c.if-first-ne0.false _ c.first_lacking-lacking.ensures.first (c.first_lacking-lacking.ensures.met c.if-lacking.true)) (λ z. omega (arith, z)) c.refused_at-then-lacking.ensures
+pub returns-in-Some-first_lacking : goal.returns-in-Some-first_lacking
+returns-in-Some-first_lacking c =
+    let a = c.in-Some-first_lacking.ensures in
+    refuses-text _ _ _ _ (refused-43 _ _ c.requires _ c.in_default.ensures (omega arith) (rw c.in_default-fault.is refl) _ a.1 a.0) (λ z. omega (arith, z)) refl
+
+pub returns-in_err-read_good : goal.returns-in_err-read_good
+returns-in_err-read_good c =
+    let p = err_from_is_err_and c.from_residual.result c.from_residual.ensures.1 in
+    rw (p.1, p.2) (read-good-done _ _ c.requires (rw c.in_default-fault.is refl) _ c.in_default.ensures (omega arith) _ c.in_default-first_lacking.ensures (omega arith) _ _ c.args.table.now.tabled _ _ _ c.in_err-read_good.ensures)
 
 pub returns : goal.returns
-returns c = read-good-done _ _ c.requires.0 c.if-first-ne0.false _ c.first_repeated-repeated.ensures.first (omega (arith, c.first_repeated-repeated.ensures.missed c.if-repeated.false)) _ c.first_lacking-lacking.ensures.first (omega (arith, c.first_lacking-lacking.ensures.missed c.if-lacking.false)) _ _ c.requires.1 _ _ _ c.read_good.ensures
+returns c = read-good-done _ _ c.requires (rw c.in_default-fault.is refl) _ c.in_default.ensures (omega arith) _ c.in_default-first_lacking.ensures (omega arith) _ _ c.args.table.now.tabled _ _ _ c.in_ok-read_good.ensures

@@ -3,8 +3,8 @@ use Rattle.sheet.specs.declared.Node.{Node}
 use mathlib.Core.Path.{ap, ◌∙◌}
 use Rattle.lists.proofs.person_reaches.Goals as goal
 
-pub returns-then-r-ne-PERSON : goal.returns-then-r-ne-PERSON
-returns-then-r-ne-PERSON c = λ e. absurd (c.if-r-ne-PERSON.true (ap (λ (x : Node). x.class) c.node_at-r.ensures ∙ e))
+pub returns-then-node-ne-PERSON : goal.returns-then-node-ne-PERSON
+returns-then-node-ne-PERSON c = λ e. absurd (c.if-node-ne-PERSON.true (ap (λ (x : Node). x.class) c.node.ensures ∙ e))
 
 pub returns : goal.returns
-returns c = λ e. c.person_reach-d.ensures.each _ c.requires.4
+returns c = λ e. c.person_reach.ensures.each _ c.requires.1

@@ -1,5 +1,5 @@
 -- `question::seek` meets its contract. The loop's invariant: no row passed has the type, the number and the mark; none before the place has.
-use Prim.Native.Nat.{ℕ, ◌-◌, ◌<◌, ◌≤◌}
+use Prim.Native.Nat.{ℕ, ◌<◌}
 use mathlib.Core.Bool.{false}
 use mathlib.Core.Path.{◌≡◌}
 use Rattle.question.specs.Asked.{stands}
@@ -9,7 +9,7 @@ use Rattle.tables.specs.Key.{identity}
 use Rattle.question.proofs.seek.Given as goal
 
 abbrev pub invariant-loop-i : goal.invariant-loop-i
-invariant-loop-i l = (l.place ≤ l.i) × (l.i ≤ l.n) × PlaceIs (node_key_at l.sheet) l.n (identity l.class l.number 0) l.place × ((j : ℕ) → j < l.i → stands l.sheet l.any l.seat.office l.class l.number j ≡ false)
-
-abbrev pub decreases-loop-i : goal.decreases-loop-i
-decreases-loop-i l = l.n - l.i
+invariant-loop-i l = record {
+  placed : PlaceIs (node_key_at l.sheet) l.fn.h.nodes (identity l.class l.number 0) l.place;
+  none : (j : ℕ) → j < l.i → stands l.sheet l.any l.seat.office l.class l.number j ≡ false;
+}

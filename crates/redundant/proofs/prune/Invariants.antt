@@ -1,5 +1,5 @@
 -- `redundant::prune` meets its contract. The loop's invariant: the redundant rows of those passed are in the list.
-use Prim.Native.Nat.{◌-◌, ◌≤◌}
+use Prim.Native.Nat.{◌≤◌}
 use mathlib.Core.Path.{◌≡◌}
 use lib.ListN.{length, take}
 use Rattle.sheet.specs.Limits.{most_edges}
@@ -8,7 +8,4 @@ use Rattle.reach.proofs.Collecting.{Collected}
 use Rattle.redundant.proofs.prune.Given as goal
 
 abbrev pub invariant-loop-j : goal.invariant-loop-j
-invariant-loop-j l = (l.j ≤ l.rows) × (l.n ≤ l.j) × (length l.list ≡ most_edges) × Collected (RedundantRow l.sheet l.seat.office) (λ i. i) l.j (take l.n l.list)
-
-abbrev pub decreases-loop-j : goal.decreases-loop-j
-decreases-loop-j l = l.rows - l.j
+invariant-loop-j l = (l.n ≤ l.j) × (length l.list ≡ most_edges) × Collected (RedundantRow l.rights.at.sheet.words.now l.rights.at.seat.office) (λ i. i) l.j (take l.n l.list)

@@ -1,5 +1,5 @@
 -- `sheet::place_of` meets its contract. The loop's invariant: the place lies between the two rows; each turn halves what is between them.
-use Prim.Native.Nat.{◌-◌}
+use Rattle.std.proofs.Common.{◌-◌}
 use Rattle.sheet.proofs.Places.{Between}
 use Rattle.sheet.specs.Rows.{count_in, row_key, row_key_at}
 use Rattle.sheet.proofs.place_of.Given as goal

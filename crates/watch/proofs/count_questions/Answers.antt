@@ -1,33 +1,32 @@
 use native.Mathlib.Omega.{arith}
-use Rattle.watch.proofs.Tracing.{running-start, running-cut, running-refused, running-next, running-end, asks-few}
+use mathlib.Core.Path.{refl, sym, ◌∙◌}
+use borrow.Author.Tests.{eq-eqb, ne_eqb, eqb-true, eqb-false}
+use Rattle.std.proofs.lemmas.Result.{err_from_is_err_and}
+use Rattle.watch.specs.Trace.{asks}
+use Rattle.watch.proofs.Tracing.{behind-start, behind-end, behind-cut, behind-refused, behind-next}
 use Rattle.watch.proofs.count_questions.Goals as goal
 
-pub loop-i-init : goal.loop-i-init
-loop-i-init c = (omega arith, omega arith, rw c.empty_watch-w.ensures (running-start c.args.timeout c.args.rows.now))
+pub loop-row-init : goal.loop-row-init
+loop-row-init c = behind-start _ _ _ c.empty_watch-watch.ensures
 
-pub overflow_sub-rows : goal.overflow_sub-rows
-overflow_sub-rows c = omega arith
+pub returns-in_err-advance : goal.returns-in_err-advance
+returns-in_err-advance c =
+    let p = err_from_is_err_and c.from_residual.result c.from_residual.ensures.1 in
+    rw (p.1, p.2)
+    (behind-refused _ _ _ _ _ c.loop-row.invariant _ c.in-Some.row.now (omega (arith, c.in-Some.ensures.cases.2)) c.in-Some.ensures.cases.0 (rw c.read_row.ensures at c.in_err-advance.ensures) (λ e. grind arith))
 
-pub returns-then-rows-i-lt5 : goal.returns-then-rows-i-lt5
-returns-then-rows-i-lt5 c = running-cut c.args.timeout c.args.rows.now c.loop-i.w c.loop-i.i c.loop-i.count c.loop-i.invariant.2 (omega arith) (omega arith)
+pub loop-row-preserved-then-branch-ne0 : goal.loop-row-preserved-then-branch-ne0
+unfolding asks
+loop-row-preserved-then-branch-ne0 c =
+    behind-next _ _ _ _ _ c.loop-row.invariant _ c.in-Some.row.now (omega (arith, c.in-Some.ensures.cases.2)) c.in-Some.ensures.cases.0 (rw c.read_row.ensures at c.in_ok-advance.ensures) c.in-Some.later.now _ c.in-Some.ensures.cases.1 refl (rw (ne_eqb _ _ c.if-branch-ne0.true) refl)
 
-pub read_row-row-requires : goal.read_row-row-requires
-read_row-row-requires c = omega arith
+pub loop-row-preserved : goal.loop-row-preserved
+unfolding asks
+loop-row-preserved c =
+    behind-next _ _ _ _ _ c.loop-row.invariant _ c.in-Some.row.now (omega (arith, c.in-Some.ensures.cases.2)) c.in-Some.ensures.cases.0 (rw c.read_row.ensures at c.in_ok-advance.ensures) c.in-Some.later.now _ c.in-Some.ensures.cases.1 refl (rw (eq-eqb _ _ c.if-branch-ne0.false) (omega arith))
 
-pub returns-then-number-ne0 : goal.returns-then-number-ne0
-returns-then-number-ne0 c = running-refused c.args.timeout c.args.rows.now c.loop-i.w c.loop-i.i c.loop-i.count c.loop-i.invariant.2 _ (omega arith) (rw c.read_row-row.ensures at c.advance-m.ensures) c.if-number-ne0.true
+pub returns-then-is_empty : goal.returns-then-is_empty
+returns-then-is_empty c = behind-end _ _ _ _ _ c.loop-row.invariant (eqb-true _ _ (sym c.is_empty.ensures ∙ c.if-is_empty.true))
 
-pub count_asked-count-requires : goal.count_asked-count-requires
-count_asked-count-requires c = omega arith
-
-pub overflow_add-i : goal.overflow_add-i
-overflow_add-i c = omega arith
-
-pub loop-i-smaller : goal.loop-i-smaller
-loop-i-smaller c = omega arith
-
-pub loop-i-preserved : goal.loop-i-preserved
-loop-i-preserved c = (omega arith, omega (arith, c.count_asked-count.ensures, asks-few c.advance-m.result.routed), rw c.count_asked-count.ensures (running-next c.args.timeout c.args.rows.now c.loop-i.w c.loop-i.i c.loop-i.count c.loop-i.invariant.2 _ (omega arith) (rw c.read_row-row.ensures at c.advance-m.ensures) c.if-number-ne0.false))
-
-pub returns : goal.returns
-returns c = running-end c.args.timeout c.args.rows.now c.loop-i.w c.loop-i.i c.loop-i.count c.loop-i.invariant.2 (omega arith)
+pub returns-else-is_empty : goal.returns-else-is_empty
+returns-else-is_empty c = behind-cut _ _ _ _ _ c.loop-row.invariant (omega (arith, eqb-false _ _ (sym c.is_empty.ensures ∙ c.if-is_empty.false))) (omega (arith, c.in_default.ensures.cases))

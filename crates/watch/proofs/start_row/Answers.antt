@@ -1,25 +1,18 @@
--- `watch::start_row` meets its contract: the folio is named, or has the first empty place, or gets 51.
-use mathlib.Core.Path.{sym, ap, ◌∙◌}
-use native.Mathlib.Omega.{arith}
-use Rattle.watch.proofs.Loops.{free-room}
-use Rattle.sheet.specs.declared.Place.{Place}
-use Rattle.watch.specs.WatchTable.{started_row, free_place}
+-- `watch::start_row` meets its contract: the first place that is free takes the folio; where none is, the row is refused.
+use mathlib.Core.Path.{refl, sym, ◌∙◌}
+use borrow.Author.Tests.{lt-ltb}
+use Rattle.watch.specs.WatchTable.{started_row}
+use Rattle.watch.proofs.Loops.{free-some, free-none}
 use Rattle.watch.proofs.start_row.Goals as goal
 
-pub returns-then-named_from : goal.returns-then-named_from
-unfolding started_row free_place
-returns-then-named_from c = rw (sym c.named_from.ensures ∙ c.if-named_from.true) c.take_row.ensures
+pub returns-in_default : goal.returns-in_default
+unfolding started_row
+returns-in_default c = λ w. rw (sym c.is_named.ensures ∙ c.if-not-is_named.true, free-none _ c.told-places (sym c.in_default.is ∙ c.first_free.ensures)) refl
 
-pub offset_bounds-out-at : goal.offset_bounds-out-at
-offset_bounds-out-at c = omega (arith, free-room _ _ c.first_free-free.ensures c.if-free.true)
+pub returns-in-Some : goal.returns-in-Some
+unfolding started_row
+returns-in-Some c = λ w. let p = free-some c.args.places.now c.in-Some.at c.told-places (sym c.in-Some.is ∙ c.first_free.ensures) in rw (sym c.is_named.ensures ∙ c.if-not-is_named.true, p.1, lt-ltb c.in-Some.at 32 p.0) refl
 
-pub bounds-out-at : goal.bounds-out-at
-bounds-out-at c = omega (arith, free-room _ _ c.first_free-free.ensures c.if-free.true)
-
-pub returns-then-free : goal.returns-then-free
-unfolding started_row free_place
-returns-then-free c = rw (sym c.named_from.ensures ∙ c.if-named_from.false, sym (ap (λ (p : Place). p.found) c.first_free-free.ensures) ∙ c.if-free.true, ← (ap (λ (p : Place). p.row) c.first_free-free.ensures)) c.take_row-then-free.ensures
-
-pub returns : goal.returns
-unfolding started_row free_place
-returns c = rw (sym c.named_from.ensures ∙ c.if-named_from.false, sym (ap (λ (p : Place). p.found) c.first_free-free.ensures) ∙ c.if-free.false) c.refuse_row.ensures
+pub returns-else-not-is_named : goal.returns-else-not-is_named
+unfolding started_row
+returns-else-not-is_named c = λ w. rw (sym c.is_named.ensures ∙ c.if-not-is_named.false) refl

@@ -8,43 +8,28 @@ use Rattle.listing.proofs.Printing.{printed-next, puts_none, puts_then, puts-as,
 use Rattle.listing.proofs.writing.put_rows.Goals as goal
 
 pub loop-i-init : goal.loop-i-init
-loop-i-init c = let S = c in
-    (omega arith, omega arith, puts_none S.args.out.now S.args.at (row_line S.args.half S.args.sheet.now), refl)
-
-pub row_line-requires : goal.row_line-requires
-row_line-requires c = let S = c in
-    (S.requires.0, omega (arith, c.loop-i-test.true, c.count_in-n.ensures))
+loop-i-init c = (omega arith, puts_none c.args.out.now c.args.at (row_line c.args.half c.args.sheet.now.words.now), refl)
 
 pub put_behind-end-requires : goal.put_behind-end-requires
-put_behind-end-requires c = let S = c in
+put_behind-end-requires c =
     let L = c.loop-i in
-    let N = c.count_in-n.ensures in
-    let f = line-in _ _ S.requires.0 S.args.half L.i _ (omega (arith, c.loop-i-test.true, N)) c.row_line.ensures in
-    (f.0, f.1, omega (arith, S.requires.1, L.invariant.1, L.invariant.0, N, rows_few S.args.half _ _ S.requires.0.nodes.header))
-
-pub overflow_add-i : goal.overflow_add-i
-overflow_add-i c = let S = c in
-    omega (arith, c.loop-i-test.true, c.count_in-n.ensures, rows_few S.args.half _ _ S.requires.0.nodes.header)
-
-pub loop-i-smaller : goal.loop-i-smaller
-loop-i-smaller c = omega (arith, c.loop-i-test.true)
+    let F = rw c.args.sheet.now.formed.table at c.args.sheet.now.formed in
+    let f = line-in _ _ F c.args.half L.i _ (omega (arith, c.loop-i-test.true, c.count-i-end.ensures)) c.row_line.ensures in
+    (f.0, f.1, omega (arith, c.requires, L.invariant.0, c.loop-i-test.true, c.count-i-end.ensures, rows_few c.args.half _ _ F.nodes.header))
 
 pub loop-i-preserved : goal.loop-i-preserved
-loop-i-preserved c = let S = c in
+loop-i-preserved c =
     let L = c.loop-i in
-    let l = c.loop-i-test.true in
     let P = c.put_behind-end in
-    let f = row_line S.args.half S.args.sheet.now in
-    let e = c.row_line.ensures in
-    let p = puts-as (ap line_text e) P.ensures.1 in
-    (omega (arith, l), omega (arith, L.invariant.1, P.ensures.0), puts-as (printed-next f L.i) (puts_then L.invariant.2 p L.invariant.3), P.auto.out ∙ L.invariant.3)
+    let f = row_line c.args.half c.args.sheet.now.words.now in
+    let p = puts-as (ap line_text c.row_line.ensures) P.ensures.1 in
+    (omega (arith, L.invariant.0, P.ensures.0), puts-as (printed-next f L.i) (puts_then L.invariant.1 p L.invariant.2), P.auto.out ∙ L.invariant.2)
 
 pub shape_of-out : goal.shape_of-out
-shape_of-out c = c.loop-i.invariant.3
+shape_of-out c = c.loop-i.invariant.2
 
 pub returns : goal.returns
-returns c = let S = c in
+returns c =
     let L = c.loop-i in
-    let N = c.count_in-n.ensures in
-    let e : L.i ≡ count_in S.args.half S.args.h = omega (arith, L.invariant.0, c.loop-i-test.false, N) in
-    (omega (arith, L.invariant.1, e), puts-as (ap (printed_lines (row_line S.args.half S.args.sheet.now)) e) L.invariant.2)
+    let e : L.i ≡ count_in c.args.half c.args.sheet.now.header = omega (arith, c.loop-i-test.false, c.count-i-end.ensures) in
+    (omega (arith, L.invariant.0, e), puts-as (ap (printed_lines (row_line c.args.half c.args.sheet.now.words.now)) e) L.invariant.1)

@@ -3,6 +3,4 @@ use Rattle.listing.proofs.Printing.{sheet-put}
 use Rattle.listing.proofs.writing.put_sheet.Goals as goal
 
 pub returns : goal.returns
-returns c = let S = c in
-    let N = c.put_rows-at in
-    sheet-put S.args.sheet.now S.args.h S.requires.head N.ensures.1 c.put_rows.ensures.1 N.auto.out
+returns c = sheet-put c.args.sheet.now.words.now c.args.sheet.now.header c.args.sheet.now.formed.head c.put_rows-at.ensures.1 c.put_rows.ensures.1 c.put_rows-at.auto.out

@@ -1,9 +1,0 @@
--- `find::find_edge` meets its contract: the search for an edge's three words.
-use mathlib.Core.Path.{subst}
-use Rattle.tables.specs.Key.{Key}
-use Rattle.sheet.specs.declared.Half.TheVariants.{Edges}
-use Rattle.find.specs.Promises.{TellsPlace}
-use Rattle.find.proofs.find_edge.Goals as goal
-
-pub returns : goal.returns
-returns c = subst (λ (k : Key). TellsPlace Edges c.args.sheet.now k c.find_in.result) c.named-wanted.ensures c.find_in.ensures

@@ -1,7 +1,0 @@
--- `listing::lay_sheet` meets its contract: header, node rows and edge rows are written through two lent tails, one behind the other.
-use mathlib.Core.Path.{refl}
-use Rattle.listing.proofs.Laying.{sheet-laid}
-use Rattle.listing.proofs.lay_sheet.Goals as goal
-
-pub returns : goal.returns
-returns c = sheet-laid _ _ _ _ _ _ c.requires.4 c.put_header.ensures _ c.lay_rows.ensures _ refl _ c.lay_rows-2.ensures

@@ -1,8 +1,0 @@
--- `lists::persons_in_category` meets its contract: it is question 5 of `sought`.
-use Rattle.lists.specs.Sought.{sought_fault, sought_is}
-use Rattle.sheet.specs.Refusals.{◌when◌otherwise◌, ◌or_else◌}
-use Rattle.lists.proofs.persons_in_category.Goals as goal
-
-pub returns : goal.returns
-unfolding sought_fault sought_is ◌when◌otherwise◌ ◌or_else◌
-returns c = c.sought.ensures

@@ -1,0 +1,42 @@
+// What a question asks for: grants, or bans.
+ghost use Rattle.std.specs.Prelude.{◌≡◌};
+ghost use Rattle.meaning.specs.Paths.{right_kind};
+ghost use Rattle.question.specs.Asked.{side_of};
+ghost use Rattle.question.specs.Sides.{side};
+
+use sheet::{BAN, GRANT};
+
+// The kind that asks for grants. Any other asks for bans.
+const OF_GRANTS: u32 = 0;
+
+// What is asked for.
+#[derive(Clone, Copy, PartialEq, Eq)]
+pub enum Asks {
+    Grants,
+    Bans,
+}
+
+// A question's kind is any word: all but 0 ask for bans.
+impl From<u32> for Asks {
+    ghost from_gives = { λ kind a. side a ≡ side_of kind };
+
+    fn from(kind: u32) -> Asks {
+        if kind == OF_GRANTS {
+            Asks::Grants
+        } else {
+            Asks::Bans
+        }
+    }
+}
+
+impl Asks {
+    // The kind of the edges that give the right.
+    pub fn edge_kind(self) -> u32
+        ensures { result ≡ right_kind (side self) }
+    {
+        match self {
+            Asks::Grants => GRANT,
+            Asks::Bans => BAN,
+        }
+    }
+}
