@@ -255,14 +255,14 @@ TormukaiRefusal tormukai_file_of_words(const uint32_t *sheet, size_t sheet_lengt
 /* Question 1: may the person do the deed on the folio, at one office? Any variant of the deed serves.
  * Answers: value 0 undetermined, 1 granted, 2 banned, 3 both. Writes: nothing.
  * Refuses with: 33, 1 to 17, 20, 21, 22, 23.
- * Stack: at most 58,240 bytes. */
+ * Stack: at most 56,320 bytes. */
 TormukaiAnswer tormukai_answer(const uint8_t *file, size_t file_length, uint32_t office, uint32_t person, uint32_t deed,
                                uint32_t folio);
 
 /* Question 2: the joint answer of all the sheet's offices under rule 1 grant-first, 2 deny-first or 3 first-applicable.
  * Answers: value as in question 1; count the deciding office, 0 where undetermined. Writes: nothing.
  * Refuses with: 33, 1 to 17, 27, 21, 22, 23.
- * Stack: at most 58,496 bytes. */
+ * Stack: at most 56,832 bytes. */
 TormukaiAnswer tormukai_joint_answer(const uint8_t *file, size_t file_length, uint32_t rule, uint32_t person, uint32_t deed,
                                      uint32_t folio);
 
@@ -271,7 +271,7 @@ TormukaiAnswer tormukai_joint_answer(const uint8_t *file, size_t file_length, ui
  * Answers: count the bytes written. Writes: the path, for each node its number and its variant, four bytes each, low byte
  * first: eight bytes a node, the person first, then the categories, the deed, the folio.
  * Refuses with: 33, 1 to 17, 20, 21, 22, 23, 26 (no such path), 25 (out_length is under the path's bytes).
- * Stack: at most 66,688 bytes. */
+ * Stack: at most 64,512 bytes. */
 TormukaiAnswer tormukai_witness(const uint8_t *file, size_t file_length, uint32_t office, uint32_t kind, uint32_t person,
                                 uint32_t deed, uint32_t folio, uint8_t *out, size_t out_length);
 
@@ -292,42 +292,42 @@ TormukaiJoined tormukai_join_files(const uint8_t *first, size_t first_length, co
 
 /* The check of a sheet.
  * Answers: 0 throughout where it is one. Writes: nothing. Refuses with: 1 to 17.
- * Stack: at most 384 bytes. */
+ * Stack: at most 256 bytes. */
 TormukaiRefusal tormukai_check(const uint32_t *sheet, size_t sheet_length);
 
 /* Question 1, as tormukai_answer. Refuses with: 1 to 17, 20, 21, 22, 23.
- * Stack: at most 17,216 bytes. */
+ * Stack: at most 15,360 bytes. */
 TormukaiAnswer tormukai_sheet_answer(const uint32_t *sheet, size_t sheet_length, uint32_t office, uint32_t person,
                                      uint32_t deed, uint32_t folio);
 
 /* Question 2, as tormukai_joint_answer. Refuses with: 1 to 17, 27, 21, 22, 23.
- * Stack: at most 17,472 bytes. */
+ * Stack: at most 16,384 bytes. */
 TormukaiAnswer tormukai_sheet_joint_answer(const uint32_t *sheet, size_t sheet_length, uint32_t rule, uint32_t person,
                                            uint32_t deed, uint32_t folio);
 
 /* Question 3, as tormukai_witness, but the path comes as words.
  * Answers: count the words written. Writes: the path, for each node its number and its variant, the person first.
  * Refuses with: 1 to 17, 20, 21, 22, 23, 26 (no such path), 25.
- * Stack: at most 21,504 bytes. */
+ * Stack: at most 19,456 bytes. */
 TormukaiAnswer tormukai_sheet_witness(const uint32_t *sheet, size_t sheet_length, uint32_t office, uint32_t kind,
                                       uint32_t person, uint32_t deed, uint32_t folio, uint32_t *out, size_t out_length);
 
 /* Question 4: is the list some grant path (kind 0) or ban path (any other) for person, deed and folio at an office, shortest
  * or not? Two words a node, as question 3 writes them.
  * Answers: value 1 yes, 0 no. Writes: nothing. Refuses with: 1 to 17, 20; whatever else is wrong is a no.
- * Stack: at most 704 bytes. */
+ * Stack: at most 576 bytes. */
 TormukaiAnswer tormukai_is_path(const uint32_t *sheet, size_t sheet_length, uint32_t office, uint32_t kind, uint32_t person,
                                 uint32_t deed, uint32_t folio, const uint32_t *list, size_t list_length);
 
 /* Question 5: who is in a category at an office, directly or through containment?
  * Answers: count the words written. Writes: the persons' numbers, rising. Refuses with: 1 to 17, 20, 24, 25.
- * Stack: at most 64,704 bytes. */
+ * Stack: at most 62,464 bytes. */
 TormukaiAnswer tormukai_persons_in_category(const uint32_t *sheet, size_t sheet_length, uint32_t office, uint32_t category,
                                             uint32_t *out, size_t out_length);
 
 /* Question 6: who has a grant path for the deed and the folio at an office?
  * Answers: count the words written. Writes: the persons' numbers, rising. Refuses with: 1 to 17, 20, 22, 23, 25.
- * Stack: at most 64,768 bytes. */
+ * Stack: at most 62,464 bytes. */
 TormukaiAnswer tormukai_persons_with_grant(const uint32_t *sheet, size_t sheet_length, uint32_t office, uint32_t deed,
                                            uint32_t folio, uint32_t *out, size_t out_length);
 
@@ -376,14 +376,14 @@ TormukaiAnswer tormukai_take_out(const uint32_t *sheet, size_t sheet_length, uin
  * row itself is the caller's own: words 6 + 4 * count to 9 + 4 * count of that sheet.
  * Answers: value the sheet that has it, 1 the first or 2 the second, the first where both have it; count its node row, from 0.
  * Writes: nothing. Refuses with: 1 to 17 of the first, then of the second; 32 (neither has it).
- * Stack: at most 512 bytes. */
+ * Stack: at most 448 bytes. */
 TormukaiAnswer tormukai_look_up(const uint32_t *first, size_t first_length, const uint32_t *second, size_t second_length,
                                 uint32_t type, uint32_t number, uint32_t variant);
 
 /* Does either of two sheets have the identity of this type (1 person, 2 category, 3 deed, 4 folio), number and variant?
  * Answers: 0 throughout where one has. Writes: nothing.
  * Refuses with: 1 to 17 of the first, then of the second; 32 (neither has it).
- * Stack: at most 512 bytes. */
+ * Stack: at most 384 bytes. */
 TormukaiRefusal tormukai_look_up_refusal(const uint32_t *first, size_t first_length, const uint32_t *second,
                                          size_t second_length, uint32_t type, uint32_t number, uint32_t variant);
 
@@ -391,7 +391,7 @@ TormukaiRefusal tormukai_look_up_refusal(const uint32_t *first, size_t first_len
  * would it stand? Any numbers may be asked for, also those that no row can have.
  * Answers: value 1 where it stands and 0 where it does not; count the node row at which it stands or would stand, from 0, which
  * is the number of node rows with a lower identity. Writes: nothing. Refuses with: 1 to 17.
- * Stack: at most 448 bytes. */
+ * Stack: at most 384 bytes. */
 TormukaiAnswer tormukai_find_node(const uint32_t *sheet, size_t sheet_length, uint32_t type, uint32_t number,
                                   uint32_t variant);
 
@@ -399,7 +399,7 @@ TormukaiAnswer tormukai_find_node(const uint32_t *sheet, size_t sheet_length, ui
  * for, also those that no row can have.
  * Answers: value 1 where it stands and 0 where it does not; count the edge row at which it stands or would stand, from 0, which
  * is the number of edge rows that are lower by kind, from and to. Writes: nothing. Refuses with: 1 to 17.
- * Stack: at most 448 bytes. */
+ * Stack: at most 384 bytes. */
 TormukaiAnswer tormukai_find_edge(const uint32_t *sheet, size_t sheet_length, uint32_t kind, uint32_t from, uint32_t to);
 
 /* ---- Adding a row ---- */
@@ -449,7 +449,7 @@ TormukaiListing tormukai_read_listing(const uint8_t *text, size_t text_length, u
  * Answers: count the bytes written. Writes: the text, every line with its line feed, and no zero at the end.
  * Refuses with: 1 to 17, 28 (at sheet 1: the sheet has two offices; take one out first), 25 (out_length is under the text's
  * bytes; with TORMUKAI_LISTING_BYTES it does not occur).
- * Stack: at most 832 bytes. */
+ * Stack: at most 704 bytes. */
 TormukaiListing tormukai_write_listing(const uint32_t *sheet, size_t sheet_length, uint8_t *out, size_t out_length);
 
 /* What does one line of a listing say? The line comes without its line feed: with one it is none of the nine.

@@ -28,7 +28,7 @@ use Rattle.combine.specs.declared.Rule.TheVariants.{Either}
 use Rattle.combine.specs.Combined.{Making, first_stays, second_stays, rows_kept}
 use Rattle.combine.specs.Halves.{kept_rows}
 use Rattle.combine.specs.Rules.{makes}
-use Rattle.combine.specs.Sheets.{IsCombined, Pair}
+use Rattle.combine.specs.Sheets.{IsCombined, Pair, Measured}
 use Rattle.combine.proofs.Reading.{half-low}
 use Rattle.combine.proofs.Ruling.{either-pair}
 use Rattle.meaning.specs.Added.{table_in, other_half, key_named, IsAdded}
@@ -36,6 +36,7 @@ use Rattle.add.specs.Adding.{most_in}
 use Rattle.add.specs.Lone.{IsLone}
 use Rattle.add.proofs.Alone.{table_is, table_none}
 use Rattle.add.proofs.Showing.{Good}
+use Rattle.combine.specs.declared.Measure.{Measure}
 
 -- ---- a row that is not there by its words is not there by what it names
 
@@ -115,6 +116,13 @@ module _ (half : Half) (s : List ℕ) (v : Accepted s) (c : Cells) (g : Good hal
       → (kept_rows Either Nodes s H u G ≤ max_nodes) × (kept_rows Either Edges s H u G ≤ max_edges H.form)
   both-few Nodes a b r = (omega (arith, a, r), omega (arith, b, v.nodes.header.edges))
   both-few Edges a b r = (omega (arith, b, v.nodes.header.nodes), omega (arith, a, r))
+
+  pub added-few : (h i : Header) → h ≡ header_of s → i ≡ header_of u → (ma mb : List ℕ) (m : Measure) → Measured Either Either s h u i ma mb m → (m.nodes ≤ max_nodes) × (m.edges ≤ max_edges h.form)
+  added-few h i p q ma mb m M =
+      let a = subst (λ (x : Header). Measured Either Either s x u i ma mb m) p M in
+      let b = subst (λ (x : Header). Measured Either Either s (header_of s) u x ma mb m) q a in
+      let f = both-few half one_kept none_kept g.room in
+      subst (λ (x : Header). (m.nodes ≤ max_nodes) × (m.edges ≤ max_edges x.form)) (sym p) (omega (arith, b.node-rows.count, f.0), omega (arith, b.edge-rows, f.1))
 
   pub added-kept : (h i : Header) → h ≡ header_of s → i ≡ header_of u → (kept_rows Either Nodes s h u i ≤ max_nodes) × (kept_rows Either Edges s h u i ≤ max_edges h.form)
   added-kept h i p q = rw (p, q) (both-few half one_kept none_kept g.room)

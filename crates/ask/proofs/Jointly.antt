@@ -33,6 +33,7 @@ use Rattle.ask.specs.declared.joint.OfficeAnswer.TheVariants.{Undetermined, Gran
 use Rattle.ask.specs.declared.joint.JointRule.{JointRule}
 use Rattle.ask.specs.declared.joint.JointRule.TheVariants.{GrantFirst, DenyFirst, FirstApplicable}
 use Rattle.ask.specs.JointRules.{answer_number, rule_number, no_rule, gives_answer, joint_told, joint_or, DecidesBy}
+use Rattle.sheet.specs.Found.{FirstAt}
 
 some-apart : (i : ℕ) → Some i ≡ None → ⊥
 some-apart i e = grind arith
@@ -55,6 +56,29 @@ module _ (test : ℕ → Bool) (tell : ℕ → ℕ) where
   unfolding lowest
   lowest-none o [] rest f = refl
   lowest-none o (x ∷ rs) rest f = rw (f 0 (omega arith)) (lowest-none (suc o) rs rest (λ i l. f (suc i) (omega arith)))
+
+  -- of the first n numbers, which offices from o on answer
+  module _ (ns : List ℕ) (n : ℕ) (h : n ≤ length ns) (o : ℕ) (rest : Joint) where
+    front-long : length (take n ns) ≡ n
+    front-long = length-take-le n ns h
+
+    front-same : (i : ℕ) → i < n → get_or (take n ns) i 0 ≡ get_or ns i 0
+    front-same i l = get_or-take n ns i 0 l
+
+    pub decides : (i : ℕ) → FirstAt (λ j. test (get_or ns j 0)) n (Some i) → lowest test tell o (take n ns) rest ≡ record { answer = tell (get_or ns i 0); office = i + o }
+    decides i f =
+        let l = f.0 in
+        lowest-found o (take n ns) rest i
+        record {
+          most = omega (arith, front-long);
+          before = λ j k. ap test (front-same j (omega arith)) ∙ f.1.before j k;
+          found = λ k. ap test (front-same i l) ∙ f.1.found l;
+        }
+        (omega (arith, front-long))
+        ∙ ap (λ (k : ℕ). record { answer = tell k; office = i + o }) (front-same i l)
+
+    pub passed_over : FirstAt (λ j. test (get_or ns j 0)) n None → lowest test tell o (take n ns) rest ≡ rest
+    passed_over f = lowest-none o (take n ns) rest (λ i k. ap test (front-same i (omega (arith, front-long))) ∙ f.before i (omega (arith, front-long)))
 
   -- of the answers of offices
   module _ (rs : List OfficeAnswer) (rest : Joint) where
@@ -119,6 +143,13 @@ one_more P rs k x l f h =
     (λ i m. subst (λ (y : OfficeAnswer). P i (answer_number y)) (sym (get_or-set_other rs k i x Undetermined (λ e. omega arith))) (f i m))
     (subst (λ (y : OfficeAnswer). P k (answer_number y)) (sym (get_or-set_same rs k x Undetermined l)) h)
 
+-- .. of any kind
+pub one-more-told : {A : Type 0} (d : A) (P : ℕ → A → Type 0) (xs : List A) (k : ℕ) (x : A) → k < length xs → ((i : ℕ) → i < k → P i (get_or xs i d)) → P k x → (i : ℕ) → i < k + 1 → P i (get_or (set xs k x) i d)
+one-more-told {A} d P xs k x l f h =
+    below_more (λ i. P i (get_or (set xs k x) i d)) k
+    (λ i m. subst (λ (y : A). P i y) (sym (get_or-set_other xs k i x d (λ e. omega arith))) (f i m))
+    (subst (λ (y : A). P k y) (sym (get_or-set_same xs k x d l)) h)
+
 -- ---- what refuses a joint answer
 
 pub fault-rule : (s : List ℕ) (q : Question) → no_rule q.rule ≡ true → 27 ≡ joint_fault s q
@@ -152,6 +183,24 @@ module _ (s t : List ℕ) (h : Header) (f : WellFormed s t h) (q : Question) (rs
             };
         result = e;
       }
+
+-- .. of the numbers of their answers
+pub joint-of-numbers : (s t : List ℕ) (h : Header) → WellFormed s t h → (q : Question) (ns : List ℕ) → length ns ≡ max_offices → ((i : ℕ) → i < h.offices → AnswerIs (seen_at s (suc i)) q.person q.deed q.folio (get_or ns i 0))
+    → JointAnswerIs (seen_at s) (header_of s).offices q.rule q.person q.deed q.folio (record { answer = (jointly q.rule (take h.offices ns)).answer; office = (jointly q.rule (take h.offices ns)).office })
+joint-of-numbers s t h f q ns long each =
+    let fit : h.offices ≤ length ns = omega (arith, long, f.nodes.header.offices-high) in
+    let same : h.offices ≡ (header_of s).offices = ap (λ (x : Header). x.offices) f.head in
+    record {
+      answers = take h.offices ns;
+      offices-say =
+          record {
+            count = length-take-le h.offices ns fit ∙ same;
+            each = λ i l.
+                let k : i < h.offices = omega (arith, same) in
+                subst (λ (r : ℕ). AnswerIs (seen_at s (suc i)) q.person q.deed q.folio r) (sym (get_or-take h.offices ns i 0 k)) (each i k);
+          };
+      result = refl;
+    }
 
 -- ---- whether an answer is undetermined, as `==` tells it
 

@@ -13,12 +13,20 @@ use Rattle.sheet.specs.Accepted.{WellFormed, Accepted}
 use Rattle.sheet.specs.Named.{seen_at}
 use Rattle.sheet.proofs.Forming.{nodes-same}
 use Rattle.meaning.specs.Paths.{Side, grant, ban, HasPath}
-use Rattle.meaning.specs.Answers.{AnswerIs}
+use Rattle.meaning.specs.Answers.{AnswerIs, Says, answered}
 use Rattle.question.specs.declared.Question.{Question}
-use Rattle.question.specs.Asked.{stands, known, unknown, SoughtIn}
+use Rattle.question.specs.Asked.{stands, known, unknown, SoughtIn, side_of}
 use Rattle.tables.proofs.Counts.{seek-known}
 use Rattle.ask.specs.Placed.{KnownRow, Placed}
 use Rattle.ask.proofs.Deciding.{path-known, placed_by}
+use Rattle.sheet.proofs.Refusing.{line-good}
+use Rattle.tables.specs.Office.{View}
+use borrow.Author.Tests.{not-false}
+
+-- the answer of the two sides
+pub two-sides : (g : View) (p d f r : ℕ) (a b : Bool) → Says a (HasPath g (side_of 0) p d f) → Says b (HasPath g (side_of 1) p d f) → r ≡ answered a b → AnswerIs g p d f r
+unfolding side_of
+two-sides g p d f r a b x y e = record { grants = a; bans = b; granted = x; banned = y; number = e }
 
 -- a search tells who is known
 module _ (s t : List ℕ) (h : Header) (f : WellFormed s t h) (any : Bool) (office class number : ℕ) where
@@ -37,6 +45,15 @@ known-all : (s : List ℕ) (any : Bool) (office : ℕ) (q : Question) → known 
     → unknown s any office q ≡ 0
 unfolding unknown ◌when◌otherwise◌
 known-all s any office q a b c = rw (a, b, c) refl
+
+-- .. and where it finds nobody unknown, it knows all three
+pub all_found : (s : List ℕ) (any : Bool) (office : ℕ) (q : Question) → unknown s any office q ≡ 0 → (known s any office 1 q.person ≡ true) × (known s any office 3 q.deed ≡ true) × (known s any office 4 q.folio ≡ true)
+unfolding unknown
+all_found s any office q e =
+    let a = line-good 21 _ _ tt e in
+    let b = line-good 22 _ _ tt a.1 in
+    let c = line-good 23 _ _ tt b.1 in
+    (not-false _ a.0, not-false _ b.0, not-false _ c.0)
 
 -- who is not known is told in the table's order
 module _ (s : List ℕ) (any : Bool) (office : ℕ) (q : Question) where

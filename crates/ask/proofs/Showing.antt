@@ -29,7 +29,7 @@ use Rattle.question.specs.declared.Question.{Question}
 use Rattle.question.specs.Asked.{side_of}
 use Rattle.ask.specs.declared.stand.Stand.{Stand}
 use Rattle.ask.specs.Placed.{Placed}
-use Rattle.question.specs.Checked.{seen_at_seat}
+use Rattle.question.specs.Checked.{seen_at_seat, AtSeat}
 use Rattle.ask.specs.PathRows.{spelled_rows, RowsIn, WalkedBack, PathRows}
 use Rattle.ask.proofs.Links.{walk_for}
 use Rattle.ask.proofs.Shortest.{witness, spelled-long}
@@ -103,6 +103,19 @@ module _ (s t : List ℕ) (h : Header) (f : WellFormed s t h) (seat : Seat) (sid
         is = subst (λ (x : List ℕ). WitnessIs (seen_from s seat) side q.person q.deed q.folio (spelled_rows s x)) (sym front)
             (witness s acc seat side q.deed pl.deed-some rf q.folio pl.folio-in pl.folio-is rp q.person pl.person-in pl.person-is tr.trail best);
       }
+
+-- ---- numbers measured from a seat
+
+module _ (s t : List ℕ) (h : Header) (seat : Seat) (at : AtSeat s t h seat) (q : Question) (rp rf : ℕ) (pl : Placed s q rp rf) (d : List ℕ) (me : WalkedBack s t h seat q rf d)
+    (w : Walk) (is : w ≡ walk_of seat (right_kind (side_of q.kind)) q.deed) where
+  pub trace-layers : Layers (Steps s t (reversed w) h.edges) (Starts d) d
+  trace-layers = subst (λ (x : Walk). Layers (Steps s t (reversed x) h.edges) (Starts d) d) (sym is) (traceable s t h at.formed seat (side_of q.kind) q rp rf pl d me.layers)
+
+  pub trace-from : rp < h.nodes
+  trace-from = subst (λ (x : Header). rp < x.nodes) (sym at.formed.head) pl.person-in
+
+  pub trace-room : get_or d rp 0 ≤ max_nodes
+  trace-room = subst (λ (x : ℕ). get_or d rp 0 ≤ x) me.long (number_bound _ _ d me.layers rp)
 
 -- ---- as the code has it: numbers measured from where a question stands
 

@@ -4,6 +4,7 @@ ghost use Rattle.sheet.specs.Limits.{max_nodes};
 ghost use Rattle.sheet.specs.Refusals.{none};
 ghost use Rattle.paths.specs.Reached.{Layers};
 ghost use Rattle.walk.specs.Arcs.{walk_of};
+ghost use Rattle.walk.specs.Outset.{Target};
 ghost use Rattle.walk.specs.WalkSteps.{steps_back};
 ghost use Rattle.meaning.specs.Paths.{right_kind, HasPath};
 ghost use Rattle.meaning.specs.Answers.{Says, AnswerIs};
@@ -53,18 +54,17 @@ fn write_nodes(sheet: &Sheet<'_>, rows: &[u32], out: &mut [u32])
     }
 }
 
-// How many steps lead from each node row to a row, and one; 0 where none do.
-fn measured(walker: &Walker<'_>, to: u32) -> [u32; ROWS]
-    requires { to < walker.now.sheet.header.nodes }
-    ensures { (length result ≡ max_nodes) × Layers (steps_back walker.now) (λ x. x ≡ to) result }
+// How many steps lead from each node row to a row, and one; 0 where none do. The numbers are lent: those of a result of its own would
+// be on the stack twice.
+fn measure(walker: &Walker<'_>, to: u32, d: &mut [u32])
+    requires { Target to d.old }
+    ensures { (length d.new ≡ max_nodes) × Layers (steps_back walker.now) (λ x. x ≡ to) d.new }
 {
-    let mut d = walk::target(to);
     let back = Walker {
         sheet: walker.sheet,
         walk: walk::reversed(walker.walk),
     };
-    back.layers(&mut d);
-    d
+    back.layers(d);
 }
 
 impl Stand<'_> {
@@ -82,7 +82,9 @@ impl Stand<'_> {
     fn has_path(&self, asks: Asks) -> bool
         ensures { Says result (HasPath (seen_at_seat self.now.at) (side asks) self.now.question.person self.now.question.deed self.now.question.folio) }
     {
-        let d = measured(&self.walker(asks), self.places.folio);
+        let to = self.places.folio;
+        let mut d = walk::target(to);
+        measure(&self.walker(asks), to, &mut d);
         d[self.places.person as usize] != 0
     }
 
@@ -95,31 +97,28 @@ impl Stand<'_> {
         OfficeAnswer::of(grants, bans)
     }
 
-    // The rows of the best path from the person's row on, in front. Not inlined: its arrays would be on the stack beside the walk's.
-    #[inline(never)]
-    fn path_rows(&self, d: &[u32]) -> [u32; ROWS]
-        requires { WalkedBack self.now.at.sheet.words.now self.now.at.sheet.edges.now self.now.at.sheet.header self.now.at.seat self.now.question self.now.places.folio d.now × (0 < get_or d.now self.now.places.person 0) }
-        ensures { PathRows self.now.at.sheet.words.now self.now.at.sheet.header.nodes self.now.at.seat self.now.question (get_or d.now self.now.places.person 0) result }
+    // The rows of the best path from the person's row on, in front of lent words.
+    fn path_rows(&self, d: &[u32], rows: &mut [u32])
+        requires { WalkedBack self.now.at.sheet.words.now self.now.at.sheet.edges.now self.now.at.sheet.header self.now.at.seat self.now.question self.now.places.folio d.now × (0 < get_or d.now self.now.places.person 0) × (length rows.old ≡ max_nodes) }
+        ensures { PathRows self.now.at.sheet.words.now self.now.at.sheet.header.nodes self.now.at.seat self.now.question (get_or d.now self.now.places.person 0) rows.new }
     {
-        let mut rows = [0u32; ROWS];
         let walker = self.walker(Asks::from(self.question.kind));
-        walker.write_path(d, self.places.person, &mut rows);
-        rows
+        walker.write_path(d, self.places.person, rows);
     }
 
     // Question 3 where the question stands: 26 where there is no path, 25 where it is longer than the output.
     pub(crate) fn show_witness(&self, out: &mut [u32]) -> Result<Told, Refusal>
         ensures { Shows none (WitnessIs (seen_at_seat self.now.at) (side_of self.now.question.kind) self.now.question.person self.now.question.deed self.now.question.folio) out.old (answer_of result) out.new }
     {
-        let d = measured(
-            &self.walker(Asks::from(self.question.kind)),
-            self.places.folio,
-        );
+        let to = self.places.folio;
+        let mut d = walk::target(to);
+        measure(&self.walker(Asks::from(self.question.kind)), to, &mut d);
         let n = d[self.places.person as usize];
         if n == 0 {
             return Err(Fault::NothingFound.into());
         }
-        let rows = self.path_rows(&d);
+        let mut rows = [0u32; ROWS];
+        self.path_rows(&d, &mut rows);
         let m = n as usize;
         if out.len() < 2 * m {
             return Err(Fault::OutputShort.into());

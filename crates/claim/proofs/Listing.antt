@@ -18,8 +18,8 @@ use Rattle.sheet.specs.declared.Cells.{Cells}
 use Rattle.sheet.specs.declared.Header.{Header}
 use Rattle.sheet.specs.declared.Half.TheVariants.{Edges}
 use Rattle.sheet.specs.declared.Edge.{Edge}
-use Rattle.sheet.specs.Rows.{header_of, edge_at, edge_of, edge_key, node_key_at, row_key}
-use Rattle.sheet.specs.Accepted.{RowsRise, Accepted}
+use Rattle.sheet.specs.Rows.{header_of, edge_at, edge_of, edge_key, node_key_at, row_key, edge_table}
+use Rattle.sheet.specs.Accepted.{RowsRise, Accepted, WellFormed}
 use Rattle.sheet.specs.Found.{FoundAt}
 use Rattle.sheet.specs.Named.{node_row}
 use Rattle.sheet.specs.Seats.{counts_at, seen_from}
@@ -28,7 +28,7 @@ use Rattle.sheet.proofs.Naming.{node_seen, edge-seen, ends-seen, rows_named, nam
 use Rattle.sheet.proofs.Places.{stands-there, formed-rises}
 use Rattle.paths.specs.Leads.{among, leads}
 use Rattle.paths.proofs.Tests.{both, or_cases}
-use Rattle.meaning.specs.Paths.{Side, right_kind, category, deed, member, applies, step, carries, path, pairs, spell, firsts, is_path}
+use Rattle.meaning.specs.Paths.{Side, right_kind, category, deed, member, applies, step, carries, path, pairs, spell, firsts, is_path, contained}
 use Rattle.meaning.proofs.Spelling.{spelt, spell-long}
 use Rattle.claim.specs.Listed.{every_second, has_second, framed, way_from, goes_on}
 use mir.Val.{bool_byte}
@@ -39,9 +39,10 @@ use Rattle.question.specs.declared.asks.Asks.{Asks}
 use Rattle.question.specs.declared.office.OfficeSheet.{OfficeSheet}
 use Rattle.question.specs.Sides.{side}
 use Rattle.question.specs.Asked.{side_of, seat_for, asked, bad_office}
-use Rattle.question.specs.Checked.{seen_at_seat}
+use Rattle.question.specs.Checked.{seen_at_seat, AtSeat}
 use Rattle.sheet.proofs.Forming.{words_of}
 use Rattle.sheet.proofs.Reading.{row_under}
+use Rattle.question.proofs.Known.{side-grant, side-ban}
 
 -- ---- what a search tells: the row that has the key, or that none has it
 
@@ -51,6 +52,10 @@ module _ (f : ℕ → Key) (n : ℕ) (up : RowsRise f n) (k : Key) (i : ℕ) whe
 
   row-nowhere : FoundAt f n k (Err i) → (j : ℕ) → j < n → f j ≡ k → ⊥
   row-nowhere x j l d = false≢true (x.told ∙ has-row n f k j l d)
+
+-- the words' own edge table
+pub own-edges : (s t : List ℕ) (h : Header) (seat : Seat) → AtSeat s t h seat → WellFormed s (edge_table s) h
+own-edges s t h seat o = subst (λ (x : List ℕ). WellFormed s x h) o.formed.table o.formed
 
 -- ---- a relation is seen exactly if the edge row between the rows of its ends stands and counts
 
@@ -133,6 +138,12 @@ module _ (g : View) where
   pub relation-named : (kind : ℕ) (a b : Cells) (x y : Key) (r : Bool) → row_key a ≡ x → row_key b ≡ y → r ≡ g.edge (relation kind (row_key a) (row_key b)) → r ≡ g.edge (relation kind x y)
   relation-named kind a b x y r e f q = q ∙ ap (λ (z : Key). g.edge (relation kind z (row_key b))) e ∙ ap (λ (z : Key). g.edge (relation kind x z)) f
 
+  pub step-grant : (kind c d : ℕ) (r : Bool) → kind ≡ 0 → r ≡ contained g c d → r ≡ step g (side_of kind) c d
+  step-grant kind c d r e q = q ∙ ap (λ (z : Side). step g z c d) (sym (side-grant kind e))
+
+  pub step-ban : (kind c d : ℕ) (r : Bool) → (kind ≡ 0 → ⊥) → r ≡ contained g d c → r ≡ step g (side_of kind) c d
+  step-ban kind c d r n q = q ∙ ap (λ (z : Side). step g z c d) (sym (side-ban kind n))
+
   pub carries-by : (side : Side) (kind d v f c : ℕ) (x y : Bool) → kind ≡ right_kind side → x ≡ g.edge (relation kind (category c) (deed d v)) → y ≡ applies g d v f → (x && y) ≡ carries g side d v f c
   carries-by side kind d v f c x y e p q = rw (p, q, e) refl
 
@@ -148,6 +159,9 @@ module _ (ws : List ℕ) (c : ℕ) (same : Bool) where
 
   pub second-by : (at left : ℕ) (b : Bool) → 0 < left → beq (eqb c (get_or ws at 0)) same ≡ b → has_second ws c same at left ≡ (b || has_second ws c same (at + 2) (left - 1))
   second-by at left b l e = second-turn at left l ∙ ap (λ (x : Bool). x || has_second ws c same (at + 2) (left - 1)) e
+
+  pub second_none : (at left : ℕ) → left ≤ 0 → has_second ws c same at left ≡ false
+  second_none at left l = let e : left ≡ 0 = omega arith in rw e refl
 
   -- .. k words passed, of m
   pub second_next : (from m k : ℕ) (b : Bool) → k < m → beq (eqb c (get_or ws (from + 2 * k) 0)) same ≡ b
@@ -389,6 +403,9 @@ module _ (g : View) (side : Side) (p d f : ℕ) (ws : List ℕ) (m : ℕ) (l : l
   all-passed r a b c q = q ∙ sym (law ∙ ap (λ (x : Bool). x && (assigned && leads_on)) (both a b) ∙ ap (λ (x : Bool). x && leads_on) c)
 
 -- ---- the reply
+
+pub office-by : (s : List ℕ) (h : Header) (office n : ℕ) → h ≡ header_of s → n ≡ bad_office h office → n ≡ bad_office (header_of s) office
+office-by s h office n e q = q ∙ ap (λ (x : Header). bad_office x office) e
 
 yes-or-no : (b r : Bool) (n : ℕ) → b ≡ r → n ≡ bool_byte b → n ≡ number_of r
 yes-or-no true r n e q = q ∙ ap number_of e

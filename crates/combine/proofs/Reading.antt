@@ -8,7 +8,7 @@ use native.Mathlib.Omega.{arith}
 use lib.Dec.{ltb}
 use lib.ListN.{length, get_or, set, get_or-eq_default}
 use lib.Pow.{pow_pos}
-use lib.Seq.{sets}
+use lib.Seq.{sets, set_out}
 use borrow.Author.Tests.{lt-ltb, le-ltb}
 use Rattle.tables.specs.Count.{number_of}
 use Rattle.tables.specs.Key.{Key, below_key}
@@ -26,7 +26,7 @@ use Rattle.sheet.proofs.Naming.{edges-up}
 use Rattle.sheet.specs.declared.Half.{Half}
 use Rattle.sheet.specs.declared.Half.TheVariants.{Nodes, Edges}
 use Rattle.sheet.specs.Stored.{stored}
-use Rattle.combine.specs.Combined.{keys, IsTable, takes, leaves}
+use Rattle.combine.specs.Combined.{keys, IsTable, takes, leaves, TableStep, given}
 use Rattle.sheet.specs.Limits.{most_edges}
 use Rattle.sheet.proofs.Widths.{rows_few}
 use Rattle.combine.specs.declared.halves.Halves.{Halves}
@@ -34,6 +34,8 @@ use Rattle.combine.specs.declared.meeting.Meeting.{Meeting}
 use Rattle.combine.specs.declared.meeting.Meeting.TheVariants.{First, Second, Both}
 use Rattle.combine.specs.Meets.{first_count, second_count, first_at, second_at, AreRows, Meets}
 use Rattle.combine.specs.Halves.{through, spelled, Moves, noted, stored_at, taken_cells}
+use native.Mathlib.Decide.{dec_lt}
+use Rattle.combine.proofs.Combining.{given-taken, given-left}
 
 module _ (s : List ℕ) (v : Accepted s) where
   own-table : (half : Half) → IsTable (count_in half (header_of s)) (row_at half s)
@@ -77,6 +79,9 @@ unfolding node_row edge_row
 words-marks Nodes s i = refl
 words-marks Edges s i = refl
 
+pub given-read : (half : Half) (s : List ℕ) (from to : ℕ) (c : Cells) → c ≡ cells_at half s from → from < to → c.offices ≡ given (row_at half s) from to
+given-read half s from to c q l = ap (λ (x : Cells). x.offices) q ∙ words-marks half s from ∙ sym (given-taken (row_at half s) from to l)
+
 -- comparing by what is named
 pub nodes-below : (half : Half) (a b : List ℕ) (i j : ℕ) (t : Bool) → half ≡ Nodes → t ≡ below_key (node_key_at a i) (node_key_at b j) → t ≡ below_key (row_at half a i).key (row_at half b j).key
 unfolding node_row
@@ -101,6 +106,27 @@ module _ (n : ℕ) (f : ℕ → Row) (m : ℕ) (g : ℕ → Row) (i j : ℕ) whe
       same (lower c s w) = absurd (true≢false (sym c ∙ u))
       same (equal c) = c
       same (higher c s w) = absurd (true≢false (sym c ∙ v))
+
+-- a table moves on by a row that it has, and one of them does
+pub moves-inside : (n : ℕ) (f : ℕ → Row) (m : ℕ) (g : ℕ → Row) (i j i' j' : ℕ) → Moves n f m g i j i' j' → (i < i' → i < n) × (j < j' → j < m) × (i' ≤ i → j < m)
+moves-inside n f m g i j i' j' M = let S = M.stepped in (inside n (keys f) i _ S.first, inside m (keys g) j _ S.second, alone S.first S.second)
+  where
+    inside : (n' : ℕ) (f' : ℕ → Key) (o o' : ℕ) → TableStep n' f' o M.key o' → o < o' → o < n'
+    inside n' f' o o' (takes a e z) l = a
+    inside n' f' o o' (leaves a z) l = absurd (omega arith)
+
+    alone : TableStep n (keys f) i M.key i' → TableStep m (keys g) j M.key j' → i' ≤ i → j < m
+    alone s (takes a e z) l = a
+    alone (takes a e z) (leaves b q) l = absurd (omega arith)
+    alone (leaves a z) (leaves b q) l = absurd (omega (arith, M.stepped.moved))
+
+-- what a sheet gives a step is marks of its offices
+pub given-low : (half : Half) (s : List ℕ) (h : Header) → WellFormed s (edge_table s) h → (i next : ℕ) → (i < next → i < count_in half h) → given (row_at half s) i next < 2 ^ h.offices
+given-low half s h w i next inside = go (dec_lt i next)
+  where
+    go : Dec (i < next) → given (row_at half s) i next < 2 ^ h.offices
+    go (yes l) = omega (arith, given-taken (row_at half s) i next l, half-marks s h w half i (inside l))
+    go (no l) = omega (arith, given-left (row_at half s) i next (omega arith), pow_pos h.offices)
 
 -- .. of two halves
 module _ (H : Halves) (i j : ℕ) where
@@ -150,6 +176,14 @@ note-stored spots from to place h = rw (lt-ltb from to h) refl
 pub note-left : (spots : List ℕ) (from to place : ℕ) → to ≤ from → spots ≡ noted spots from to place
 unfolding noted
 note-left spots from to place h = rw (le-ltb from to h) refl
+
+pub note-past : (spots : List ℕ) (from to place : ℕ) → length spots ≤ from → spots ≡ noted spots from to place
+unfolding noted
+note-past spots from to place h = go (ltb from to)
+  where
+    go : (b : Bool) → spots ≡ cond b (set spots from place) spots
+    go true = sym (set_out spots from place h)
+    go false = refl
 
 pub stored_some : (half : Half) (form : ℕ) (out : List ℕ) (k : ℕ) (c : Cells) → 0 < c.offices → sets out (row_place half form k) (stored half form c) ≡ stored_at half form out k c
 unfolding stored_at

@@ -20,7 +20,6 @@ use Rattle.sheet.specs.declared.Half.{Half}
 use Rattle.sheet.specs.declared.Half.TheVariants.{Nodes, Edges}
 use Rattle.combine.specs.declared.Rule.{Rule}
 use Rattle.combine.specs.declared.Measure.{Measure}
-use Rattle.combine.specs.declared.Places.{Places}
 use Rattle.std.specs.Prelude.{Result, Ok, Err}
 use Rattle.sheet.specs.declared.fault.Fault.{Fault}
 use Rattle.sheet.specs.declared.fault.Fault.TheVariants.{OutputShort}
@@ -146,8 +145,8 @@ module _ (C : Combination) (half : Half) (H : Halves) (q : IsHalf C half H) wher
 -- ---- the combination, put into an output
 
 module _ (C : Combination) (m : Measure) (out : List ℕ) where
-  pub put-short : (p : Places) → MeasuredAs C p m → m.nodes ≤ max_nodes → m.edges ≤ max_edges C.first.now.header.form → length out < sheet_words C.first.now.header.form m.nodes m.edges → PutsAs C out (Err OutputShort) out
-  put-short p M x y l = let T = there _ _ _ _ _ _ _ _ _ m C.sound M x y in short T.sheet T.is (omega (arith, T.long))
+  pub put-short : (firstplaces secondplaces : List ℕ) → MeasuredAs C firstplaces secondplaces m → m.nodes ≤ max_nodes → m.edges ≤ max_edges C.first.now.header.form → length out < sheet_words C.first.now.header.form m.nodes m.edges → PutsAs C out (Err OutputShort) out
+  put-short ps qs M x y l = let T = there _ _ _ _ _ _ _ _ _ m C.sound M x y in short T.sheet T.is (omega (arith, T.long))
 
   pub put-written : (out' : List ℕ) (n : ℕ) → n ≡ sheet_words C.first.now.header.form m.nodes m.edges → n ≤ length out → LaidAs C m out out' → PutsAs C out (Ok n) out'
   put-written out' n e l L =

@@ -5,7 +5,6 @@ use Rattle.sheet.specs.declared.Half.{Half}
 use Rattle.sheet.specs.declared.fault.Fault.{Fault}
 use Rattle.sheet.specs.declared.fault.Fault.TheVariants.{OutputShort}
 use Rattle.combine.specs.declared.Measure.{Measure}
-use Rattle.combine.specs.declared.Places.{Places}
 use Rattle.combine.specs.declared.combination.Combination.{Combination}
 use Rattle.combine.specs.declared.halves.Halves.{Halves}
 use Rattle.combine.specs.Rules.{makes, rule_in}
@@ -20,8 +19,8 @@ pub record IsHalf (C : Combination) (half : Half) (H : Halves) : Type 0 where
   pub rule : H.rule ≡ rule_in half C.plan
 
 -- the combination's rows are counted, and where both sheets' node rows stand in it is noted
-abbrev pub MeasuredAs : Combination → Places → Measure → Type 0
-MeasuredAs C p m = Measured C.plan.nodes C.plan.edges C.first.now.words.now C.first.now.header C.second.now.words.now C.second.now.header p.first p.second m
+abbrev pub MeasuredAs : Combination → List ℕ → List ℕ → Measure → Type 0
+MeasuredAs C firstplaces secondplaces m = Measured C.plan.nodes C.plan.edges C.first.now.words.now C.first.now.header C.second.now.words.now C.second.now.header firstplaces secondplaces m
 
 -- the combination stands in front of the output
 abbrev pub LaidAs : Combination → Measure → List ℕ → List ℕ → Type 0

@@ -250,12 +250,11 @@ impl<'a> Combination<'a> {
 
     // How many rows the combination has, and in lent words the places of both sheets' node rows in it, as a search finds them.
     // Nothing is written yet, so that what is too much is known before.
-    pub fn measure(&self, places: &mut Places) -> Measure
-        ensures { MeasuredAs self.now places.new result }
+    pub fn measure(&self, firstplaces: &mut [u32], secondplaces: &mut [u32]) -> Measure
+        requires { (length firstplaces.old ≡ max_nodes) × (length secondplaces.old ≡ max_nodes) }
+        ensures { MeasuredAs self.now firstplaces.new secondplaces.new result }
     {
-        let nodes = self
-            .half(Half::Nodes)
-            .survey(&mut places.first, &mut places.second);
+        let nodes = self.half(Half::Nodes).survey(firstplaces, secondplaces);
         // nobody asks where an edge row stands
         let edges = self.half(Half::Edges).survey(&mut [], &mut []);
         Measure { nodes, edges }
@@ -263,8 +262,8 @@ impl<'a> Combination<'a> {
 
     // Writes the combination to the front of a lent output, which has room for it: the header, then the node rows; the output from
     // its edge offset onward is lent to the writer of the edge rows.
-    pub fn lay(&self, places: &Places, m: Measure, out: &mut [u32])
-        requires { MeasuredAs self.now places.now m × (m.nodes ≤ max_nodes) × (m.edges ≤ max_edges self.now.first.now.header.form) × (sheet_words self.now.first.now.header.form m.nodes m.edges ≤ length out.old) }
+    pub fn lay(&self, firstplaces: &[u32], secondplaces: &[u32], m: Measure, out: &mut [u32])
+        requires { MeasuredAs self.now firstplaces.now secondplaces.now m × (m.nodes ≤ max_nodes) × (m.edges ≤ max_edges self.now.first.now.header.form) × (sheet_words self.now.first.now.header.form m.nodes m.edges ≤ length out.old) }
         ensures { LaidAs self.now m out.old out.new }
     {
         let form = self.first.header.form;
@@ -273,7 +272,7 @@ impl<'a> Combination<'a> {
             .write(&[], &[], &mut out[sheet::HEADER_WORDS..]);
         let from = sheet::HEADER_WORDS + sheet::NODE_WORDS * m.nodes;
         self.half(Half::Edges)
-            .write(&places.first, &places.second, &mut out[from..]);
+            .write(firstplaces, secondplaces, &mut out[from..]);
     }
 
     // Puts the combination, whose rows are within a sheet's limits, to the front of a lent output: how many words it has.
@@ -285,12 +284,12 @@ impl<'a> Combination<'a> {
             first: [0; ROWS],
             second: [0; ROWS],
         };
-        let m = self.measure(&mut places);
+        let m = self.measure(&mut places.first, &mut places.second);
         let words = sheet::sheet_words(self.first.header.form, m.nodes, m.edges);
         if out.len() < words {
             return Err(Fault::OutputShort);
         }
-        self.lay(&places, m, out);
+        self.lay(&places.first, &places.second, m, out);
         Ok(words as u32)
     }
 }

@@ -34,28 +34,43 @@ module _ (file : List ℕ) (k : ℕ) (is : k ≡ bytes_fault (length file)) wher
   pub words-lent : (out out' : List ℕ) (r : Refusal) → k ≡ 0 → Writes none (words_of file) out r out' → Writes (refuse (bytes_fault (length file)) 1 0 none) (words_of file) out r out'
   words-lent out out' r z w = subst (λ (v : Refusal). Writes v (words_of file) out r out') (refuse-none-is k (bytes_fault (length file)) 1 0 none none is z refl) w
 
--- words that have room for any sheet have room for a file's that is not refused by 33, which then stand in front of them
-pub was_read : (file words : List ℕ) (r : Refusal) (words' : List ℕ) → length words ≡ max_words → bytes_fault (length file) ≡ 0 → Writes none (words_of file) words r words' → take (length file / 4) words' ≡ words_of file
-was_read file words r words' long z w =
-    let most = bytes_good (length file) z in
-    let n = words_long file in
-    decoded words' file _ (writes-room (words_of file) words r words' w (omega arith)).1
+-- a file that was read into words that have room for any sheet: refused by 33, or its words stand in front of them
+pub record FileRead (file : List ℕ) (r : Refusal) (words : List ℕ) : Type 0 where
+  pub refusal : r ≡ refuse (bytes_fault (length file)) 1 0 none
+  pub good : r.number ≡ 0 → bytes_fault (length file) ≡ 0
+  pub stand : r.number ≡ 0 → take (length file / 4) words ≡ words_of file
+
+pub was_read : (file words₀ words : List ℕ) (r : Refusal) → length words₀ ≡ max_words → Writes (refuse (bytes_fault (length file)) 1 0 none) (words_of file) words₀ r words → FileRead file r words
+was_read file words₀ words r long w = go (bytes_fault (length file)) refl
+  where
+    go : (k : ℕ) → k ≡ bytes_fault (length file) → FileRead file r words
+    go zero is =
+        let e = refuse-none (bytes_fault (length file)) 1 0 none (sym is) in
+        let most = bytes_good (length file) (sym is) in
+        let n = words_long file in
+        let all = writes-room (words_of file) words₀ r words (subst (λ (v : Refusal). Writes v (words_of file) words₀ r words) e w) (omega arith) in
+        record { refusal = all.0 ∙ sym e; good = λ y. sym is; stand = λ y. decoded words file _ all.1 }
+    go (suc k) is =
+        let v = refuse-some-is (suc k) (bytes_fault (length file)) 1 0 none is (λ z. absurd (omega (arith, z))) in
+        let e = w.told ∙ sym (then-some-is (record { number = suc k; sheet = 1; row = 0 }) _ _ v (λ z. absurd (omega (arith, z)))) in
+        let some : r.number ≡ 0 → ⊥ = λ z. absurd (omega (arith, sym z ∙ ap (λ (x : Refusal). x.number) e)) in
+        record { refusal = e ∙ v; good = λ z. absurd (some z); stand = λ z. absurd (some z) }
 
 -- ---- what is asked of it
 
-some_first : (n k : ℕ) (v : Refusal) → (n ≡ 0 → ⊥) → record { number = n; sheet = 1; row = 0 } ≡ (refuse n 1 0 v then plain k)
+some_first : (n k : ℕ) (v : Refusal) → (n ≡ 0 → ⊥) → refuse n 1 0 none ≡ (refuse n 1 0 v then plain k)
 unfolding refuse ◌then◌
 some_first zero k v h = absurd (h refl)
 some_first (suc n) k v h = refl
 
 -- 33 refuses it, whatever is asked
-module _ (file : List ℕ) (n : ℕ) (is : n ≡ bytes_fault (length file)) (h : n ≡ 0 → ⊥) (r : Refusal) (e : r ≡ record { number = n; sheet = 1; row = 0 }) where
+module _ (file : List ℕ) (r : Refusal) (e : r ≡ refuse (bytes_fault (length file)) 1 0 none) (h : r.number ≡ 0 → ⊥) where
   first-33 : (k : ℕ) → r ≡ after_file file k
   unfolding after_file bytes_verdict
-  first-33 k = e ∙ rw is (some_first (bytes_fault (length file)) k (verdict 1 (words_of file)) (λ z. h (is ∙ z)))
+  first-33 k = e ∙ some_first (bytes_fault (length file)) k (verdict 1 (words_of file)) (λ z. h (ap (λ (y : Refusal). y.number) (e ∙ refuse-none (bytes_fault (length file)) 1 0 none z)))
 
   first-some : (k : ℕ) → (after_file file k).number ≡ 0 → ⊥
-  first-some k z = h (ap (λ (y : Refusal). y.number) (sym e ∙ first-33 k) ∙ z)
+  first-some k z = h (ap (λ (y : Refusal). y.number) (first-33 k) ∙ z)
 
   pub reply-unread : (P : ℕ → ℕ → Type 0) (k : ℕ) (a : Answer) → a ≡ refused_by r → Replies (after_file file k) P a
   reply-unread P k a q = subst (λ (y : Answer). Replies (after_file file k) P y) (sym (q ∙ ap refused_by (first-33 k))) (Replies.refused (first-some k))

@@ -3,7 +3,6 @@
 
 ghost use Rattle.std.specs.Prelude.{◌≡◌, [], ◌∷◌, length, IfOk, IfErr};
 ghost use Rattle.tables.specs.Key.{identity};
-ghost use Rattle.sheet.specs.FaultNumbers.{fault_number};
 ghost use Rattle.sheet.specs.Refusals.{none, refuse, Writes};
 ghost use Rattle.sheet.specs.Verdict.{verdict};
 ghost use Rattle.files.specs.Bytes.{words_of, bytes_of, bytes_fault, bytes_verdict};
@@ -29,7 +28,7 @@ use join::Joined;
 use lines::Line;
 use listing::Listing;
 use question::{Answer, Question, Told};
-use sheet::{Edge, Fault, MAX_WORDS, Node, Refusal};
+use sheet::{Edge, MAX_WORDS, Node, Refusal};
 use watch::Watch;
 
 // No witness is longer: a person, a deed and a folio, and categories, each with a row of its own.
@@ -46,12 +45,14 @@ pub fn tormukai_words_of_file(file: &[u8], out: &mut [u32]) -> Refusal
 }
 
 // The words of a file's bytes, in lent words that have room for any sheet: refused by 33 alone.
-fn read<'a>(file: &[u8], words: &'a mut [u32; MAX_WORDS]) -> Result<&'a [u32], Fault>
+fn read<'a>(file: &[u8], words: &'a mut [u32; MAX_WORDS]) -> Result<&'a [u32], Refusal>
     ensures ok { IfOk result (λ s. (s.now ≡ words_of file.now) × (bytes_fault (length file.now) ≡ 0)) }
-    ensures err { IfErr result (λ f. fault_number f ≡ bytes_fault (length file.now)) }
+    ensures err { IfErr result (λ r. (r ≡ refuse (bytes_fault (length file.now)) 1 0 none) × (r.number ≡ 0 → ⊥)) }
 {
-    files::bytes_fault(file.len())?;
-    files::decode(file, words);
+    let refusal = tormukai_words_of_file(file, words);
+    if refusal.number != 0 {
+        return Err(refusal);
+    }
     Ok(&words[..file.len() / 4])
 }
 
@@ -62,7 +63,7 @@ pub fn tormukai_answer(file: &[u8], office: u32, person: u32, deed: u32, folio: 
     let mut words = [0u32; MAX_WORDS];
     match read(file, &mut words) {
         Ok(sheet) => tormukai_sheet_answer(sheet, office, person, deed, folio),
-        Err(fault) => Answer::from(fault.at(1, 0)),
+        Err(refusal) => Answer::from(refusal),
     }
 }
 
@@ -73,7 +74,7 @@ pub fn tormukai_joint_answer(file: &[u8], rule: u32, person: u32, deed: u32, fol
     let mut words = [0u32; MAX_WORDS];
     match read(file, &mut words) {
         Ok(sheet) => tormukai_sheet_joint_answer(sheet, rule, person, deed, folio),
-        Err(fault) => Answer::from(fault.at(1, 0)),
+        Err(refusal) => Answer::from(refusal),
     }
 }
 
@@ -131,7 +132,7 @@ pub fn tormukai_witness(
             office_question(office, kind, person, deed, folio),
             out,
         ),
-        Err(fault) => Answer::from(fault.at(1, 0)),
+        Err(refusal) => Answer::from(refusal),
     }
 }
 

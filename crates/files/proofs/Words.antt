@@ -15,7 +15,11 @@ use Rattle.sheet.specs.Limits.{max_bytes}
 use Rattle.sheet.proofs.Refusing.{line-good}
 use Rattle.std.specs.Int.{w32, from_le_bytes}
 use Rattle.std.specs.Simd.{first_chunks}
-use Rattle.files.specs.Bytes.{words_of, bytes_of_word, bytes_of, bytes_fault}
+use Rattle.files.specs.Bytes.{words_of, bytes_of_word, bytes_of, bytes_fault, word_of}
+
+-- the word in the four bytes from a place on
+abbrev pub word_from : List ℕ → ℕ → ℕ
+word_from bs at = word_of (get_or bs at 0) (get_or bs (at + 1) 0) (get_or bs (at + 2) 0) (get_or bs (at + 3) 0)
 
 pub words_long : (bs : List ℕ) → length (words_of bs) ≡ length bs / 4
 unfolding words_of
@@ -24,6 +28,26 @@ words_long (a ∷ []) = refl
 words_long (a ∷ b ∷ []) = refl
 words_long (a ∷ b ∷ c ∷ []) = refl
 words_long (a ∷ b ∷ c ∷ d ∷ rest) = let e = words_long rest in omega arith
+
+pub words-at : (bs : List ℕ) (i : ℕ) → i < length bs / 4 → get_or (words_of bs) i 0 ≡ word_from bs (4 * i)
+unfolding words_of
+words-at [] i h = absurd (omega (arith, h))
+words-at (a ∷ []) i h = absurd (omega (arith, h))
+words-at (a ∷ b ∷ []) i h = absurd (omega (arith, h))
+words-at (a ∷ b ∷ c ∷ []) i h = absurd (omega (arith, h))
+words-at (a ∷ b ∷ c ∷ d ∷ rest) zero h = refl
+words-at (a ∷ b ∷ c ∷ d ∷ rest) (suc i) h =
+    let e0 : 4 * suc i ≡ suc (suc (suc (suc (4 * i)))) = omega arith in
+    let e1 : 4 * suc i + 1 ≡ suc (suc (suc (suc (4 * i + 1)))) = omega arith in
+    let e2 : 4 * suc i + 2 ≡ suc (suc (suc (suc (4 * i + 2)))) = omega arith in
+    let e3 : 4 * suc i + 3 ≡ suc (suc (suc (suc (4 * i + 3)))) = omega arith in
+    rw (e1, e2, e3, e0) (words-at rest i (omega (arith, h)))
+
+-- .. as the run that stands next
+pub word-run : (bs : List ℕ) (i : ℕ) → i < length bs / 4 → take 1 (drop i (words_of bs)) ≡ word_from bs (4 * i) ∷ []
+word-run bs i h =
+    ap (take 1) (drop-cons (words_of bs) i 0 (omega (arith, words_long bs)))
+    ∙ ap (λ (w : ℕ). w ∷ []) (words-at bs i h)
 
 -- the word that is read from the i-th four bytes
 word_in : (bs : List ℕ) (n i : ℕ) → n ≡ length bs / 4 → i < n → (d : List ℕ) → get_or (words_of bs) i 0 ≡ from_le_bytes w32 (get_or (first_chunks 4 n bs) i d)

@@ -1,7 +1,7 @@
 -- Runs from the deed rows of a number: what their numbers tell of each row.
 -- Assumes nothing.
 use Prim.Native.Nat.{ℕ, ◌<◌}
-use mathlib.Core.Path.{◌≡◌}
+use mathlib.Core.Path.{◌≡◌, ap, ◌∙◌}
 use mathlib.Core.Bool.{true}
 use mathlib.Core.List.{List}
 use lib.Dec.{eqb}
@@ -23,6 +23,7 @@ use Rattle.least.specs.Least.{starting, DeedStarts, RowsByDeed, RowsBy}
 use Rattle.reach.specs.Toured.{Prepared}
 use Rattle.reach.proofs.Touring.{toured}
 use Rattle.reach.proofs.Marking.{some_number, number-some, starts-tell}
+use Rattle.tables.specs.Count.{number_of}
 
 -- ---- from the deed rows of a number
 
@@ -35,6 +36,10 @@ starting-is r v number e =
 is-starting : (r : Node) (v number : ℕ) → r.class ≡ deed_type → r.number ≡ number → (v ≡ 0 → ⊥) → starting r v number ≡ true
 unfolding starting
 is-starting r v number a b c = both (eq-eqb r.class 3 a) (both (eq-eqb r.number number b) (number-some v c))
+
+-- the number at a row that was read
+pub deed-start : (x y : Node) (u number v : ℕ) → x ≡ y → v ≡ number_of (starting x u number) → v ≡ number_of (starting y u number)
+deed-start x y u number v e q = q ∙ ap (λ (z : Node). number_of (starting z u number)) e
 
 pub rows-by : (s t : List ℕ) (h : Header) (w : Walk) (d : List ℕ) (number : ℕ) (r₀ r : List ℕ) → length r ≡ max_nodes → DeedStarts s h.nodes d number r₀ → Layers (Steps s t w h.edges) (Starts r₀) r → RowsByDeed s t h w d number r
 rows-by s t h w d number r₀ r e st y = record { long = e; each = λ i l. starts-tell s t h w (λ x. starting (node_at s x) (get_or d x 0) number) r₀ r st y i (ByDeed s t h w d number i) (from i) to }

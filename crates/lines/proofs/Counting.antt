@@ -10,9 +10,14 @@ use Rattle.std.specs.Prelude.{Option, Some, None}
 use lib.Dec.{ltb}
 use lib.ListN.{length, get_or, drop, drop_of_length-le}
 use lib.Seq.{drop-cons}
-use borrow.Author.Tests.{ltb-false, le-ltb}
+use borrow.Author.Tests.{ltb-false, le-ltb, ltb-true, not-true}
 use Rattle.lines.specs.Numerals.{is_digit, digits_of, behind_digits, value_from, value_of, too_high}
 use Rattle.lines.specs.Fitting.{DigitsAre, in_word, with_digit}
+use Rattle.tables.proofs.Tables.{and-true}
+
+-- the bytes that are digits
+pub digit-range : (b : ℕ) → is_digit b ≡ true → (48 ≤ b) × (b < 58)
+digit-range b e = let a = and-true _ _ e in (ltb-false _ _ (not-true _ a.0), ltb-true _ _ a.1)
 
 -- a digit in front, or another byte
 pub digits-on : (b : ℕ) (t : List ℕ) → is_digit b ≡ true → digits_of (b ∷ t) ≡ b ∷ digits_of t

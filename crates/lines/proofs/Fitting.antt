@@ -1,6 +1,6 @@
 -- A line read by a pattern, character by character: each step keeps the outcome.
 -- Assumes nothing.
-use Prim.Native.Nat.{ℕ, zero, suc, ◌+◌, ◌-◌, ◌<◌, ◌≤◌}
+use Prim.Native.Nat.{ℕ, zero, suc, ◌+◌, ◌-◌, ◌<◌, ◌≤◌, min}
 use mathlib.Core.Path.{◌≡◌, refl, sym, ap, subst, ◌∙◌}
 use mathlib.Core.Bool.{Bool, true, false, not, cond, ◌&&◌, ◌||◌, true≢false}
 use mathlib.Core.List.{List, [], ◌∷◌, ◌++◌, append_assoc, append-nil}
@@ -14,7 +14,7 @@ use Rattle.std.specs.Prelude.{Option, Some, None, is_some, Result, Ok, Err}
 use Rattle.sheet.specs.FaultNumbers.{fault_number}
 use Rattle.sheet.specs.declared.fault.Fault.{Fault}
 use Rattle.sheet.specs.declared.fault.Fault.TheVariants.{UnlikeLine}
-use borrow.Author.Tests.{eq-eqb, ne_eqb}
+use borrow.Author.Tests.{eq-eqb, ne_eqb, ltb-true, not-false, ltb-false, lt-ltb, le-ltb}
 use Rattle.tables.specs.Count.{number_of}
 use Rattle.lines.specs.declared.Digits.{Digits}
 use Rattle.lines.specs.declared.Line.{Line}
@@ -71,6 +71,23 @@ digits-head b t = go (is_digit b)
     go true h = refl
     go false h = absurd (omega arith)
 
+capped-zero : (v : ℕ) → eqb (min v too_high) 0 ≡ eqb v 0
+capped-zero zero = refl
+capped-zero (suc v) = ne_eqb (min (suc v) too_high) 0 (λ e. omega arith) ∙ sym (ne_eqb (suc v) 0 (λ e. omega arith))
+
+capped-low : (v : ℕ) → ltb (min v too_high) too_high ≡ ltb v too_high
+capped-low v = go (ltb v too_high) refl
+  where
+    go : (b : Bool) → ltb v too_high ≡ b → ltb (min v too_high) too_high ≡ b
+    go true e = let l = ltb-true v too_high e in lt-ltb (min v too_high) too_high (omega arith)
+    go false e = let l = ltb-false v too_high e in le-ltb (min v too_high) too_high (omega arith)
+
+-- a number by its digits or, where it is too high, by the lowest that is
+pub bad-same : (variant : Bool) (ds : List ℕ) (b count value : ℕ) → value ≡ min (value_of ds) too_high → count ≡ length ds → get_or ds 0 0 ≡ b
+    → ((not variant && eqb value 0) || ((eqb b 48 && ltb 1 count) || not (ltb value too_high))) ≡ bad_number variant ds
+unfolding bad_number
+bad-same variant ds b count value e n f = rw (e, n, ← f, capped-zero (value_of ds), capped-low (value_of ds)) refl
+
 -- a number that is read, as the code tells whether it is bad
 pub good-same : (variant : Bool) (ds : List ℕ) (b count : ℕ) → count ≡ length ds → get_or ds 0 0 ≡ b
     → good_number (not variant) (eqb b 48 && ltb 1 count) (in_word (value_of ds)) ≡ cond (bad_number variant ds) None (Some (value_of ds))
@@ -86,6 +103,17 @@ good-same variant ds b count n f = rw (n, ← f) (go (eqb (get_or ds 0 0) 48 && 
     go true true = refl
     go false true = refl
     go l false = rw (too-high (not variant && eqb (value_of ds) 0) l) refl
+
+-- a good number is not too high
+pub good-low : (variant : Bool) (ds : List ℕ) → bad_number variant ds ≡ false → value_of ds < too_high
+unfolding bad_number
+good-low variant ds e =
+    ltb-true (value_of ds) too_high
+    (not-false _ (or-none (eqb (get_or ds 0 0) 48 && ltb 1 (length ds)) (not (ltb (value_of ds) too_high)) (or-none (not variant && eqb (value_of ds) 0) _ e)))
+  where
+    or-none : (a b : Bool) → (a || b) ≡ false → b ≡ false
+    or-none true b e = absurd (true≢false e)
+    or-none false b e = e
 
 -- ---- one character of a pattern
 

@@ -1,5 +1,6 @@
 pub mod Counting
 pub mod Fitting
+pub mod Ends
 pub mod Spelled
 pub mod Decimals
 pub mod Back

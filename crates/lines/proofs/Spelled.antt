@@ -2,7 +2,7 @@
 -- Assumes nothing.
 use Prim.Native.Nat.{ℕ, zero, suc, ◌*◌, ◌≤◌, ◌+◌, ◌-◌, ◌<◌}
 use mathlib.Core.Path.{◌≡◌, refl, sym, ap, ◌∙◌}
-use mathlib.Core.Bool.{Bool, true, false, cond}
+use mathlib.Core.Bool.{Bool, true, false, cond, not, ◌&&◌, ◌||◌}
 use mathlib.Core.List.{List, [], ◌∷◌, ◌++◌, append_assoc}
 use native.Mathlib.Omega.{arith}
 use native.Mathlib.Numerals.{add-one}
@@ -12,6 +12,7 @@ use Rattle.text.specs.Growing.{decimal, end_of_line, Grows}
 use Rattle.text.proofs.Putting.{grows_then, grows-as}
 use Rattle.lines.specs.declared.Line.{Line}
 use Rattle.lines.specs.Nine.{nine, of_number, numbers_of, spelled_by, line_text, line_room}
+use lib.Dec.{eqb}
 
 -- ---- one character
 
@@ -59,6 +60,27 @@ module _ (p k at : ℕ) (ns out : List ℕ) where
   -- a mark
   pub put-decimal : of_number p ≡ true → k < length ns → (n r : ℕ) (out' : List ℕ) → n ≡ get_or ns k 0 → Grows out at ([] ++ decimal n) r out' → Grows out at (spelled_by (p ∷ []) (drop k ns)) r out'
   put-decimal e h n r out' q x = grows-as (ap decimal q ∙ sym (ap (spelled_by (p ∷ [])) (drop-cons ns k 0 h) ∙ mark-spelled p (get_or ns k 0) (drop (suc k) ns) e)) x
+
+-- neither mark, and one of them
+pub no-mark-here : (p : ℕ) → (not (eqb p 35) && not (eqb p 37)) ≡ true → of_number p ≡ false
+no-mark-here p e = go (eqb p 35) (eqb p 37) e
+  where
+    go : (a b : Bool) → (not a && not b) ≡ true → (a || b) ≡ false
+    go true b x = sym x
+    go false true x = sym x
+    go false false x = refl
+
+pub mark-here : (p : ℕ) → (not (eqb p 35) && not (eqb p 37)) ≡ false → of_number p ≡ true
+mark-here p e = go (eqb p 35) (eqb p 37) e
+  where
+    go : (a b : Bool) → (not a && not b) ≡ false → (a || b) ≡ true
+    go true b x = refl
+    go false true x = refl
+    go false false x = sym x
+
+-- the third number is the last
+pub last-number : (l : Line) (k : ℕ) → k < 3 → (k ≡ 0 → ⊥) → (k ≡ 1 → ⊥) → l.third ≡ get_or (numbers_of l) k 0
+last-number l k h a b = let e : k ≡ 2 = omega (arith, h, a, b) in rw e
 
 -- ---- the loop
 
@@ -136,3 +158,15 @@ line-put l k e x = (
   omega (arith, x.0, nine-short (k - 1)),
   grows-as (spelled-ended (get_or nine (k - 1) []) (numbers_of l) ∙ ap (λ (j : ℕ). spelled_by (get_or nine (j - 1) []) (numbers_of l) ++ end_of_line) (sym e)) x.1,
 )
+
+-- .. wherever it ends
+pub line-grown : (l : Line) (k : ℕ) → l.form ≡ k → {out out' : List ℕ} {r : ℕ} → Grows out 0 (spelled_by (get_or nine (k - 1) [] ++ end_of_line) (numbers_of l)) r out' → Grows out 0 (line_text l) r out'
+unfolding line_text
+line-grown l k e x = grows-as (spelled-ended (get_or nine (k - 1) []) (numbers_of l) ∙ ap (λ (j : ℕ). spelled_by (get_or nine (j - 1) []) (numbers_of l) ++ end_of_line) (sym e)) x
+
+-- a form that is none of the first eight is the last
+pub not_yet : (k n : ℕ) → k ≤ n → (n ≡ k → ⊥) → suc k ≤ n
+not_yet k n h a = omega (arith, h, a)
+
+pub least-left : (n : ℕ) → 9 ≤ n → n ≤ 9 → n ≡ 9
+least-left n a b = omega (arith, a, b)

@@ -10,7 +10,7 @@ use native.Mathlib.Numerals.{add-one}
 use lib.Dec.{eqb, ltb}
 use lib.ListN.{length, get_or, take, drop, length-drop, drop_of_length-le}
 use lib.Seq.{drop-drop, drop-cons}
-use borrow.Author.Tests.{ltb-true, ltb-false}
+use borrow.Author.Tests.{ltb-true, ltb-false, eq-eqb, ne_eqb}
 use borrow.Author.Count.{below_none, below_more}
 use Rattle.std.specs.List.{position, position_or_len}
 use Rattle.std.specs.Bool.{◌==◌}
@@ -27,6 +27,21 @@ use Rattle.listing.specs.Cut.{cut_up, begun, lines_said, line_at}
 use Rattle.listing.specs.LineByLine.{index_of, index_after, CameTo, TakesLine}
 
 -- ---- where a line ends
+
+-- the byte that is sought stands in front
+pub index-here : (x : ℕ) (t : List ℕ) (i : ℕ) → i < length t → get_or t i 0 ≡ x → index_of x (drop i t) ≡ 0
+unfolding index_of index_after
+index-here x t i h e = rw (drop-cons t i 0 h, eq-eqb (get_or t i 0) x e)
+
+-- another byte stands in front
+pub index-further : (x : ℕ) (t : List ℕ) (i : ℕ) → i < length t → (get_or t i 0 ≡ x → ⊥) → index_of x (drop i t) ≡ suc (index_of x (drop (suc i) t))
+unfolding index_of index_after
+index-further x t i h n = rw (drop-cons t i 0 h, ne_eqb (get_or t i 0) x n)
+
+-- none is left
+pub index-none : (x : ℕ) (t : List ℕ) (i : ℕ) → length t ≤ i → index_of x (drop i t) ≡ 0
+unfolding index_of
+index-none x t i h = rw (drop_of_length-le t {i = i} h)
 
 -- the library's search for a line feed
 feed-index : (t : List ℕ) → position_or_len (λ b. b == 10) t ≡ index_of 10 t

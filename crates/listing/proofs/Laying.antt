@@ -1,7 +1,7 @@
 -- The rows of a sheet are laid line by line, in the order of the lines.
 -- Assumes nothing.
 use Prim.Native.Nat.{ℕ, zero, suc, ◌+◌, ◌-◌, ◌*◌, ◌<◌, ◌≤◌}
-use mathlib.Core.Path.{◌≡◌, sym, ap, subst, ◌∙◌}
+use mathlib.Core.Path.{◌≡◌, sym, ap, subst, ◌∙◌, refl}
 use mathlib.Core.List.{List, [], ◌++◌}
 use native.Mathlib.Omega.{arith}
 use lib.ListN.{length, get_or, take, drop, length-append, length-drop}
@@ -18,7 +18,10 @@ use Rattle.sheet.proofs.Tails.{two-tails}
 use Rattle.sheet.proofs.Widths.{place-start, place-next, place-before}
 use Rattle.sorting.specs.Sorted.{four_at, four_of}
 use Rattle.sorting.specs.declared.Four.{Four}
-use Rattle.listing.specs.Laying.{line_of_row, line_in, CellsFor, RowWords, RowsLaid, SheetLaid}
+use Rattle.listing.specs.Laying.{line_of_row, line_in, CellsFor, RowWords, RowsLaid, SheetLaid, PlaceOfLine, line_cells}
+use Rattle.lines.specs.declared.Line.{Line}
+use Rattle.listing.specs.LineByLine.{InOrder}
+use Rattle.lines.specs.Naming.{kind_named, from_line, to_line}
 
 -- a row of the table, by its words
 pub row-line : (rows : List ℕ) (i : ℕ) (w : Four) → four_of w ≡ four_at rows i → record { fault = 0; form = w.first; first = w.second; second = w.third; third = w.fourth } ≡ line_of_row rows i
@@ -29,6 +32,24 @@ row-line rows i w e =
     let c : w.third ≡ get_or rows (4 * i + 2) 0 = cc e in
     let d : w.fourth ≡ get_or rows (4 * i + 3) 0 = cc e in
     λ k. record { fault = 0; form = a k; first = b k; second = c k; third = d k }
+
+pub row_room : (rows order : List ℕ) → InOrder rows order → (p : ℕ) → p < length order → 4 * get_or order p 0 + 4 ≤ length rows
+row_room rows order o p h = omega (arith, o.sorted.inside p h, o.room)
+
+-- the words of a row, half by half
+module _ (half : Half) (rows order : List ℕ) (p : ℕ) (l : Line) (is : l ≡ line_in rows order p) where
+  pub node_made : half ≡ Nodes → CellsFor half rows order (line_in rows order p) (line_cells l)
+  node_made e = rw e (ap line_cells is)
+
+  pub edge-made : half ≡ Edges → (kind from to : ℕ) (a b : Line) → kind ≡ kind_named l → a ≡ from_line l → PlaceOfLine rows order a from → b ≡ to_line l → PlaceOfLine rows order b to
+      → CellsFor half rows order (line_in rows order p) (record { first = kind; second = from; third = to; offices = 1 })
+  edge-made e kind from to a b k f x g y =
+      rw e (record {
+        kind = k ∙ ap kind_named is;
+        from = subst (λ (z : Line). PlaceOfLine rows order z from) (f ∙ ap from_line is) x;
+        to = subst (λ (z : Line). PlaceOfLine rows order z to) (g ∙ ap to_line is) y;
+        office = refl;
+      })
 
 -- ---- row by row
 

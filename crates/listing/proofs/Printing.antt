@@ -22,7 +22,7 @@ use Rattle.text.specs.Growing.{Grows}
 use Rattle.text.proofs.Putting.{grows_then, grows-as, grows-front}
 use Rattle.lines.specs.declared.Line.{Line}
 use Rattle.lines.specs.Nine.{line_text}
-use Rattle.listing.specs.Printed.{line_of_edge, node_line_at, edge_line_at, row_line, printed_lines, printed, PutsIfRoom}
+use Rattle.listing.specs.Printed.{line_of_edge, node_line_at, edge_line_at, row_line, printed_lines, printed, PutsIfRoom, line_of_node}
 
 -- ---- the line of a row
 
@@ -42,6 +42,13 @@ module _ (kind : ℕ) (from to : Node) where
       go : (b : Bool) → (cond {A = Line} b (record { fault = 0; form = 4 + kind; first = from.number; second = from.variant; third = to.number }) (record { fault = 0; form = 4 + kind; first = from.number; second = to.number; third = to.variant })).form ≡ 4 + kind
       go true = refl
       go false = refl
+
+-- the line of a row of a half that is told
+pub line-of-node : (half : Half) (s : List ℕ) (i : ℕ) (r : Node) → half ≡ Nodes → r ≡ node_at s i → line_of_node r ≡ row_line half s i
+line-of-node half s i r p q = ap line_of_node q ∙ ap (λ (x : Half). row_line x s i) (sym p)
+
+pub line-of-edge : (half : Half) (s : List ℕ) (i : ℕ) (e : Edge) (a b : Node) (l : Line) → half ≡ Edges → e ≡ edge_of s i → a ≡ node_at s e.from → b ≡ node_at s e.to → l ≡ line_of_edge e.kind a b → l ≡ row_line half s i
+line-of-edge half s i e a b l p q x y z = z ∙ (λ j. line_of_edge e.kind (x j) (y j)) ∙ ap (λ (d : Edge). line_of_edge d.kind (node_at s d.from) (node_at s d.to)) q ∙ ap (λ (h : Half). row_line h s i) (sym p)
 
 module _ (s : List ℕ) (h : Header) (w : WellFormed s (edge_table s) h) where
   pub kind-few : (i : ℕ) (e : Edge) → i < h.edges → e ≡ edge_of s i → e.kind ≤ 5
@@ -71,6 +78,9 @@ puts_none text at f = record { ends = omega arith; holds = λ _. refl }
 -- what was put fits, or not
 pub puts-all : {text put t : List ℕ} {at r : ℕ} → Grows text at put r t → PutsIfRoom text at put r t
 puts-all g = record { ends = g.ends; holds = λ _. g.holds }
+
+pub puts-not : {text put : List ℕ} {at r : ℕ} → r ≡ at + length put → length text < r → PutsIfRoom text at put r text
+puts-not e h = record { ends = e; holds = λ l. absurd (omega (arith, h, l)) }
 
 module _ {text t t' a b : List ℕ} {at r q : ℕ} where
   pub puts_then : PutsIfRoom text at a r t → PutsIfRoom t r b q t' → length t ≡ length text → PutsIfRoom text at (a ++ b) q t'

@@ -3,7 +3,7 @@
 use Prim.Native.Nat.{ℕ, ◌+◌, ◌<◌}
 use native.Mathlib.Omega.{arith}
 use mathlib.Core.Path.{◌≡◌, refl, sym, ap, subst, ◌∙◌}
-use mathlib.Core.Bool.{true, false}
+use mathlib.Core.Bool.{true, false, true≢false}
 use mathlib.Core.List.{List}
 use mathlib.Core.Logic.{⊎_elim}
 use lib.ListN.{length, get_or, set}
@@ -21,13 +21,13 @@ use Rattle.meaning.specs.Forms.{Rising}
 use Rattle.meaning.specs.Questions.{InCategory, PersonsInCategoryAre, PersonsWithGrantAre}
 use Rattle.meaning.proofs.Axioms.{a1-a2}
 use Rattle.walk.specs.declared.Walk.{Walk}
-use Rattle.question.specs.Asked.{stands, known}
+use Rattle.question.specs.Asked.{stands, known, SoughtIn}
 use Rattle.tables.proofs.Counts.{some-row}
 use Rattle.question.specs.Checked.{AtSeat}
 use Rattle.ask.proofs.Links.{walk_for}
 use Rattle.sheet.proofs.Forming.{words_of}
 use Rattle.question.proofs.Known.{found-class}
-use Rattle.std.specs.Prelude.{Option}
+use Rattle.std.specs.Prelude.{Option, Result, Ok, Err}
 use Rattle.reach.specs.Finds.{Finds}
 use Rattle.reach.specs.Reaching.{Tells, LeadsTo}
 use Rattle.lists.specs.Picked.{PersonLeads, PersonsReach, wanted, PickedNumber}
@@ -35,6 +35,8 @@ use Rattle.reach.proofs.Collecting.{rising-map, finds-map}
 use Rattle.reach.proofs.Leading.{plain_row, category-of, category-leads, folio-of, folio-leads}
 use Rattle.reach.proofs.Marking.{some_number, number-some}
 use Rattle.reach.proofs.Rows.{SeenRow, seen-row}
+use Rattle.sheet.specs.Found.{row_told}
+use Rattle.lists.proofs.Picking.{known_by}
 
 -- one more row's number tells
 pub tells_more : (P C : ℕ → Type 0) (m : List ℕ) (i v : ℕ) → i < length m → ((j : ℕ) → j < i → C j → Tells (get_or m j 0) (P j)) → (C i → Tells v (P i)) → (j : ℕ) → j < i + 1 → C j → Tells (get_or (set m i v) j 0) (P j)
@@ -80,6 +82,11 @@ known_some s t h f office c n e z =
     let r = some-row (stands s false office c n) (header_of s).nodes e in
     let l = subst (λ (x : Header). r.0 < x.nodes) (sym f.head) r.1 in
     (f.nodes.fit r.0 l).number ((found-class s false office c n r.0 r.2).1 ∙ z)
+
+-- the row that a search found
+pub found_in : (s : List ℕ) (h : Header) (office c n : ℕ) (r : Result ℕ ℕ) → h ≡ header_of s → known s false office c n ≡ true → SoughtIn s false office c n h.nodes r → row_told r < h.nodes
+found_in s h office c n (Ok i) e k x = x.0
+found_in s h office c n (Err i) e k x = absurd (true≢false (sym k ∙ sym (known_by s h office c n (Err i) e x)))
 
 -- a row that stands
 pub found-key : (s t : List ℕ) (h : Header) → WellFormed s t h → (office c n i : ℕ) → i < h.nodes → stands s false office c n i ≡ true → (c ≡ 3 → ⊥) → node_key_at s i ≡ identity c n 0

@@ -8,7 +8,7 @@ use mathlib.Core.List.{List}
 use lib.Dec.{eqb}
 use lib.ListN.{get_or}
 use borrow.Author.Tests.{eqb-true, eq-eqb}
-use Rattle.std.specs.Prelude.{Ok, Err}
+use Rattle.std.specs.Prelude.{Ok, Err, Result, is_ok}
 use Rattle.tables.proofs.Counts.{some_at}
 use Rattle.tables.specs.Marks.{marked}
 use Rattle.sheet.specs.declared.Header.{Header}
@@ -30,6 +30,7 @@ use Rattle.lists.specs.declared.Search.{Search}
 use Rattle.lists.specs.declared.Search.TheVariants.{PersonsInCategory, PersonsWithGrant, FoliosOutOfReach, LeastTriple, LeastHolder, RedundantEdges}
 use Rattle.lists.specs.Sought.{unknown_category, unknown_right, bad_pair, asked_fault, sought_fault}
 use Rattle.reach.proofs.Collecting.{Collected, collected-all}
+use Rattle.tables.specs.Count.{some_row}
 
 -- ---- the test of a row
 
@@ -84,6 +85,13 @@ module _ (s t : List ℕ) (h : Header) (f : WellFormed s t h) (office class numb
   unfolding known
   unknown-at i x = rw (nodes-same s t h f) at x.0
 
+-- .. and whether there is one
+pub known_by : (s : List ℕ) (h : Header) (office class number : ℕ) (r : Result ℕ ℕ) → h ≡ header_of s → SoughtIn s false office class number h.nodes r → is_ok r ≡ known s false office class number
+unfolding known
+known_by s h office class number (Ok i) e x =
+    sym (some_at (stands s false office class number) (header_of s).nodes i (subst (λ (y : Header). i < y.nodes) e x.0) (x.1.found x.0))
+known_by s h office class number (Err i) e x = sym (subst (λ (y : Header). some_row (stands s false office class number) y.nodes ≡ false) e x.0)
+
 -- a line of the table
 line-passed : (n more : ℕ) (b : Bool) → b ≡ true → (n when not b otherwise more) ≡ more
 unfolding ◌when◌otherwise◌
@@ -130,6 +138,33 @@ module _ (s : List ℕ) (q : Question) (seat : Seat) (is : seat ≡ seat_for q) 
   unfolding bad_pair
   pair-same d e = sym (line-passed 22 _ _ (at_own 3 q.deed true d) ∙ line-passed 22 _ _ (at_own 3 q.other true e))
 
+-- ---- where nothing is refused, what is named is known
+
+else-zero : (k m : ℕ) → k or_else m ≡ 0 → m ≡ 0
+unfolding ◌or_else◌
+else-zero zero m e = e
+else-zero (suc k) m e = absurd (omega (arith, e))
+
+known-line : (n : ℕ) (b : Bool) (more : ℕ) → (n ≡ 0 → ⊥) → n when not b otherwise more ≡ 0 → (b ≡ true) × (more ≡ 0)
+unfolding ◌when◌otherwise◌
+known-line n true more z e = (refl, e)
+known-line n false more z e = absurd (z e)
+
+module _ (s : List ℕ) (q : Question) (seat : Seat) (is : seat ≡ seat_for q) where
+  by_seat : (class number : ℕ) → known s false q.office class number ≡ true → known s false seat.office class number ≡ true
+  by_seat class number e = subst (λ (x : Seat). known s false x.office class number ≡ true) (sym is) e
+
+  pub category-there : sought_fault PersonsInCategory s q ≡ 0 → known s false seat.office 2 q.category ≡ true
+  unfolding unknown_category ◌when◌otherwise◌
+  category-there fine = by_seat 2 q.category (known-line 24 (known s false q.office 2 q.category) 0 (λ z. omega arith) (else-zero (bad_office (header_of s) q.office) _ fine)).0
+
+  pub right-there : sought_fault PersonsWithGrant s q ≡ 0 → (known s false seat.office 3 q.deed ≡ true) × (known s false seat.office 4 q.folio ≡ true)
+  unfolding unknown_right ◌when◌otherwise◌
+  right-there fine =
+      let a = known-line 22 (known s false q.office 3 q.deed) _ (λ z. omega arith) (else-zero (bad_office (header_of s) q.office) _ fine) in
+      let b = known-line 23 (known s false q.office 4 q.folio) 0 (λ z. omega arith) a.1 in
+      (by_seat 3 q.deed a.0, by_seat 4 q.folio b.0)
+
 -- ---- what is refused, with the office's number in front
 
 else-first : (n k m : ℕ) → n ≡ k → (n ≡ 0 → ⊥) → n ≡ k or_else m
@@ -156,3 +191,19 @@ asked-fault-own FoliosOutOfReach s q e = sym e
 asked-fault-own LeastTriple s q e = sym e
 asked-fault-own LeastHolder s q e = else-own _ _ e
 asked-fault-own RedundantEdges s q e = sym e
+
+-- .. by the header that was read
+pub fault-after : (search : Search) (s : List ℕ) (q : Question) (h : Header) → h ≡ header_of s → bad_office h q.office ≡ 0 → sought_fault search s q ≡ asked_fault search s q
+fault-after search s q h e z = sym (asked-fault-own search s q (subst (λ (x : Header). bad_office x q.office ≡ 0) e z))
+
+pub sought-office : (search : Search) (s : List ℕ) (q : Question) (h : Header) (n : ℕ) → h ≡ header_of s → n ≡ bad_office h q.office → (n ≡ 0 → ⊥) → n ≡ sought_fault search s q
+sought-office search s q h n e b z = fault-office search s q n (subst (λ (x : Header). n ≡ bad_office x q.office) e b) z
+
+-- a question that refuses nothing more than the office's number
+pub office-alone : (s : List ℕ) (q : Question) (search : Search) → (search ≡ PersonsInCategory → ⊥) → (search ≡ PersonsWithGrant → ⊥) → (search ≡ LeastHolder → ⊥) → sought_fault search s q ≡ bad_office (header_of s) q.office
+office-alone s q PersonsInCategory a b c = absurd (a refl)
+office-alone s q PersonsWithGrant a b c = absurd (b refl)
+office-alone s q FoliosOutOfReach a b c = refl
+office-alone s q LeastTriple a b c = refl
+office-alone s q LeastHolder a b c = absurd (c refl)
+office-alone s q RedundantEdges a b c = refl

@@ -81,16 +81,15 @@ fn person_reaches(tour: &Tour<'_>, from: u32, to: usize) -> u32
     reach::person_reach(tour, from)[to]
 }
 
-// For each person's row, whether the walk leads from it to a row: 0 no, any other yes.
-fn persons_reaching(tour: &Tour<'_>, to: usize) -> [u32; ROWS]
-    requires { to < tour.now.walker.sheet.header.nodes }
-    ensures { PersonsReachBy tour.now.walker to result }
+// For each person's row, whether the walk leads from it to a row: 0 no, any other yes. The numbers are lent: those of a result of its
+// own would be on the stack twice.
+fn note_reaching(tour: &Tour<'_>, to: usize, reaching: &mut [u32])
+    requires { (to < tour.now.walker.sheet.header.nodes) × (length reaching.old ≡ max_nodes) }
+    ensures { PersonsReachBy tour.now.walker to reaching.new }
 {
-    let mut reaching = [0; ROWS];
     for from in 0..tour.walker.sheet.header.nodes {
         reaching[from as usize] = person_reaches(tour, from, to);
     }
-    reaching
 }
 
 // The numbers of the office's persons from whose rows the grants' walk for a deed leads to a row, rising; how many they are. Inlined: its arrays then share their places on the stack.
@@ -109,7 +108,8 @@ fn persons_to(at: &OfficeSheet<'_>, deed: u32, to: usize, list: &mut [u32]) -> u
         walker,
         index: &index,
     };
-    let reaching = persons_reaching(&tour, to);
+    let mut reaching = [0; ROWS];
+    note_reaching(&tour, to, &mut reaching);
     numbers_of(at, PERSON, true, &reaching, list)
 }
 

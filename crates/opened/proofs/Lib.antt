@@ -1,2 +1,3 @@
+pub mod Naming
 pub mod Single
 pub mod Mistakes

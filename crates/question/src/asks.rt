@@ -6,8 +6,10 @@ ghost use Rattle.question.specs.Sides.{side};
 
 use sheet::{BAN, GRANT};
 
-// The kind that asks for grants. Any other asks for bans.
-const OF_GRANTS: u32 = 0;
+// What a question's kind asks for: grants, or bans, which any other number asks for too.
+pub const OF_GRANTS: u32 = 0;
+
+pub const OF_BANS: u32 = 1;
 
 // What is asked for.
 #[derive(Clone, Copy, PartialEq, Eq)]

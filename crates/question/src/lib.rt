@@ -15,7 +15,7 @@ mod asks;
 mod office;
 mod reply;
 
-pub use asks::Asks;
+pub use asks::{Asks, OF_BANS, OF_GRANTS};
 pub use office::OfficeSheet;
 pub use reply::Told;
 use sheet::{Fault, Half, Header, Node, Refusal, Seat, Sheet};

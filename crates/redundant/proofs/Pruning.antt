@@ -230,10 +230,24 @@ module _ (s : List ℕ) (seat : Seat) where
   pub bans-say : (t : List ℕ) (h : Header) → WellFormed s t h → (b : Bool) → b ≡ some_row (ban_at t h seat) h.edges → Says b (HasBanRow (seen_from s seat))
   bans-say t h f b q = subst (λ (x : Bool). Says x (HasBanRow (seen_from s seat))) (sym q) (told-bans t h f)
 
+-- both, one after the other
+pub first-fails : (P Q : Type 0) (b : Bool) → Says b P → b ≡ false → Says b (P × Q)
+first-fails P Q true x z = absurd (true≢false z)
+first-fails P Q false x z = λ y. x y.0
+
+pub then-second : (P Q : Type 0) (a b : Bool) → Says a P → a ≡ true → Says b Q → Says b (P × Q)
+then-second P Q true true x z y = (x, y)
+then-second P Q true false x z y = λ w. y w.1
+then-second P Q false b x z y = absurd (true≢false (sym z))
+
 -- no membership needs the bans' walk where the test that asks for it fails
 pub not-asked : (b : Bool) (kind : ℕ) {P : Type 0} → Says b P → (b && eqb kind member_kind) ≡ false → kind ≡ member_kind → P → ⊥
 not-asked true kind x z k r = true≢false (sym (eq-eqb kind member_kind k) ∙ z)
 not-asked false kind x z k r = x r
+
+-- the ends of a row are rows
+pub ends-inside : (s t : List ℕ) (h : Header) → WellFormed s t h → (j : ℕ) (e : Edge) → e ≡ edge_at h t j → j < h.edges → (e.from < h.nodes) × (e.to < h.nodes)
+ends-inside s t h f j e q l = subst (λ (x : Edge). (x.from < h.nodes) × (x.to < h.nodes)) (sym q) ((f.edges.shaped j l).from, (f.edges.shaped j l).to)
 
 -- the rows collected are all that there are
 pub pruned-all : (s t : List ℕ) (h : Header) → WellFormed s t h → (office j : ℕ) (out : List ℕ) → h.edges ≤ j → Collected (RedundantRow s office) (λ i. i) j out → RedundantEdgesAre s office out

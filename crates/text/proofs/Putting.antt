@@ -26,6 +26,10 @@ put-behind text bytes t at room holds =
 pub grows-byte : (text : List ℕ) (at b : ℕ) → Grows text at (b ∷ []) (at + 1) (set text at b)
 grows-byte text at b = record { ends = refl; holds = refl }
 
+-- two bytes
+pub grows-two : (text : List ℕ) (at b c : ℕ) → Grows text at (b ∷ c ∷ []) (at + 2) (set (set text at b) (at + 1) c)
+grows-two text at b c = record { ends = refl; holds = ap (λ (i : ℕ). set (set text at b) i c) (omega arith) }
+
 -- a run of stores, and the next run behind it
 sets_then : (text : List ℕ) (at : ℕ) (a b : List ℕ) → sets (sets text at a) (at + length a) b ≡ sets text at (a ++ b)
 sets_then text at [] b = ap (λ (i : ℕ). sets text i b) (omega arith)

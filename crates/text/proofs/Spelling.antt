@@ -1,6 +1,6 @@
 -- A number's decimal digits are those of its tens and then the lowest, and a word has ten at most.
 -- Assumes nothing.
-use Rattle.std.proofs.Common.{ℕ, zero, suc, ◌+◌, ◌/◌, ◌%◌, ◌^◌, ◌<◌, ◌≤◌, ◌≡◌, refl, sym, ap, ◌∙◌, [], ◌∷◌, ◌++◌, length, arith, length-append}
+use Rattle.std.proofs.Common.{ℕ, zero, suc, ◌+◌, ◌/◌, ◌%◌, ◌^◌, ◌<◌, ◌≤◌, ◌≡◌, refl, sym, ap, ◌∙◌, [], ◌∷◌, ◌++◌, length, arith, length-append, List, append_assoc}
 use borrow.Author.Tests.{lt-ltb, le-ltb}
 use native.Mathlib.Nat.{pow-succ'}
 use native.Mathlib.Decide.{dec_lt}
@@ -31,6 +31,20 @@ digits-then (suc k) h = rw (le-ltb (suc k) 10 h, enough k (suc k / 10) (suc k / 
 
 pub tens-shorter : (n : ℕ) → 10 ≤ n → length (decimal (n / 10)) + 1 ≡ length (decimal n)
 tens-shorter n h = omega (arith, ap length (digits-then n h), length-append (decimal (n / 10)) ((48 + n % 10) ∷ []))
+
+-- two digits at a time: those of a number below a hundred, and the two lowest of a greater one
+pub two-alone : (n : ℕ) → 10 ≤ n → n < 100 → decimal n ≡ (48 + n / 10) ∷ (48 + n % 10) ∷ []
+two-alone n h l = digits-then n h ∙ ap (λ (x : List ℕ). x ++ ((48 + n % 10) ∷ [])) (digit-alone (n / 10) (omega arith))
+
+pub two-then : (n : ℕ) → 100 ≤ n → decimal n ≡ decimal (n / 100) ++ ((48 + n / 10 % 10) ∷ (48 + n % 10) ∷ [])
+two-then n h =
+    let e : n / 10 / 10 ≡ n / 100 = omega arith in
+    digits-then n (omega arith)
+    ∙ ap (λ (x : List ℕ). x ++ ((48 + n % 10) ∷ [])) (digits-then (n / 10) (omega arith) ∙ ap (λ (x : ℕ). decimal x ++ ((48 + n / 10 % 10) ∷ [])) e)
+    ∙ append_assoc (decimal (n / 100)) ((48 + n / 10 % 10) ∷ []) ((48 + n % 10) ∷ [])
+
+pub two-shorter : (n : ℕ) → 100 ≤ n → length (decimal (n / 100)) + 2 ≡ length (decimal n)
+two-shorter n h = omega (arith, ap length (two-then n h), length-append (decimal (n / 100)) ((48 + n / 10 % 10) ∷ (48 + n % 10) ∷ []))
 
 -- so many digits at most
 few-digits : (k n : ℕ) → n < 10 ^ suc k → length (decimal n) ≤ suc k

@@ -16,7 +16,8 @@ pub fn put_bytes(text: &mut [u8], at: usize, bytes: &[u8]) -> usize
     end
 }
 
-// A number in decimal, likewise: the digits in front of the lowest, and then the lowest.
+// A number in decimal, likewise: the digits in front of the two lowest, and then those two. With a call for each digit it would take
+// more stack.
 // Stays: `write!` and the kit's `itoa` print into a buffer of their own, from which the digits are copied, and the theorems on what is
 // printed speak of our own `decimal`.
 fn put_decimal(text: &mut [u8], at: usize, number: u32) -> usize
@@ -27,9 +28,15 @@ fn put_decimal(text: &mut [u8], at: usize, number: u32) -> usize
         text[at] = b'0' + number as u8;
         return at + 1;
     }
-    let from = put_decimal(text, at, number / 10);
-    text[from] = b'0' + (number % 10) as u8;
-    from + 1
+    if number < 100 {
+        text[at] = b'0' + (number / 10) as u8;
+        text[at + 1] = b'0' + (number % 10) as u8;
+        return at + 2;
+    }
+    let from = put_decimal(text, at, number / 100);
+    text[from] = b'0' + (number / 10 % 10) as u8;
+    text[from + 1] = b'0' + (number % 10) as u8;
+    from + 2
 }
 
 // A label and a number, likewise. A number has ten digits at most.

@@ -306,7 +306,8 @@ fn step_words(timeout: u32, sheet: &[u32], rows: &[u32], out: &mut [u32]) -> Rep
     let mut taken: usize = 0;
     let mut count: usize = 0;
     for row in rows.chunks(5) {
-        let a = duty::step(&mut watch, sheet, timeout, row);
+        let moved = duty::lend_and_step(watch, sheet, timeout, row);
+        let a = moved.answer;
         if a.number != 0 {
             return stepped(a, taken, count);
         }
@@ -316,6 +317,7 @@ fn step_words(timeout: u32, sheet: &[u32], rows: &[u32], out: &mut [u32]) -> Rep
             }
             count += 1;
         }
+        watch = moved.watch;
         taken += 1;
     }
     stepped(Answer::default(), taken, count)

@@ -242,7 +242,9 @@ impl<'a> Draft<'a> {
         }
     }
 
-    // The first row of a half that has a fault, of the sheet that the caller counts as `place`.
+    // The first row of a half that has a fault, of the sheet that the caller counts as `place`. Inlined, so that the check takes the stack
+    // that it took as one function.
+    #[inline(always)]
     fn check_half(&self, place: u32, half: Half) -> Result<(), Refusal>
         ensures told { refusal_told result ≡ first_row place (fault_at self.now.words.now self.now.edges.now self.now.header half) 0 (count_in half self.now.header) }
         ensures err { IfErr result (λ r. r.number ≡ 0 → ⊥) }

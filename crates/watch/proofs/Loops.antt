@@ -1,7 +1,7 @@
 -- A search along a list, and a list changed element by element, as loops go. Assumes nothing.
 use Prim.Native.Nat.{ℕ, suc, ◌+◌, ◌-◌, ◌≤◌, ◌<◌}
 use mathlib.Core.Path.{◌≡◌, refl, sym, ◌∙◌}
-use mathlib.Core.Bool.{true, false}
+use mathlib.Core.Bool.{true, false, Bool}
 use mathlib.Core.List.{List, [], ◌∷◌, ◌++◌, append_assoc}
 use native.Mathlib.Omega.{arith}
 use native.Mathlib.Numerals.{add-one}
@@ -17,7 +17,32 @@ use Rattle.watch.specs.History.{changed, some}
 use Rattle.watch.specs.WatchTable.{free_at, free_place, doubled, names_folio}
 use Rattle.watch.specs.declared.Emergency.{Emergency}
 
+module _ {A : Type 0} (t : A → Bool) (l : List A) (i : ℕ) where
+  pub some_end : length l ≤ i → some t (drop i l) ≡ false
+  unfolding some
+  some_end h = rw (drop_of_length-le l h) refl
+
+  pub some-hit : (d : A) → i < length l → t (get_or l i d) ≡ true → some t (drop i l) ≡ true
+  unfolding some
+  some-hit d h e = rw (drop-cons l i d h, e) refl
+
+  pub some-miss : (d : A) → i < length l → t (get_or l i d) ≡ false → some t (drop i l) ≡ some t (drop (i + 1) l)
+  unfolding some
+  some-miss d h e = rw (add-one i, drop-cons l i d h, e) refl
+
 module _ (l : List Emergency) (i : ℕ) where
+  pub free-end : length l ≤ i → free_at (drop i l) ≡ 0
+  unfolding free_at
+  free-end h = rw (drop_of_length-le l h) refl
+
+  pub free-hit : (d : Emergency) → i < length l → (get_or l i d).mark ≡ 0 → free_at (drop i l) ≡ 0
+  unfolding free_at
+  free-hit d h e = rw (drop-cons l i d h, eq-eqb _ _ e) refl
+
+  pub free-miss : (d : Emergency) → i < length l → ((get_or l i d).mark ≡ 0 → ⊥) → free_at (drop i l) ≡ suc (free_at (drop (i + 1) l))
+  unfolding free_at
+  free-miss d h e = rw (add-one i, drop-cons l i d h, ne_eqb _ _ e) refl
+
   pub doubled-end : length l ≤ i → doubled (drop i l) ≡ false
   unfolding doubled
   doubled-end h = rw (drop_of_length-le l h) refl

@@ -12,4 +12,4 @@ pub returns-in-Ok : goal.returns-in-Ok
 returns-in-Ok c = let A = c.args in of-file _ _ c.in-Ok.ensures.ok.0 c.in-Ok.ensures.ok.1 (λ (after : ℕ → Refusal) (s : List ℕ). AnswersJointly after s (asking 0 A.rule 0 A.person A.deed A.folio) c.tormukai_sheet_joint_answer.result) c.tormukai_sheet_joint_answer.ensures
 
 pub returns-in-Err : goal.returns-in-Err
-returns-in-Err c = reply-unread _ _ c.in-Err.ensures.err (λ e. grind arith) _ c.at.ensures _ _ _ c.from.ensures
+returns-in-Err c = reply-unread _ _ c.in-Err.ensures.err.0 c.in-Err.ensures.err.1 _ _ _ c.from.ensures

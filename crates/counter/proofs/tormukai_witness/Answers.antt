@@ -17,4 +17,4 @@ returns-in-Ok c = let A = c.args in
     (rw c.office_question.ensures at c.witness_bytes.ensures)
 
 pub returns-in-Err : goal.returns-in-Err
-returns-in-Err c = show-unread _ _ c.in-Err.ensures.err (λ e. grind arith) _ c.at.ensures _ _ _ _ c.from.ensures
+returns-in-Err c = show-unread _ _ c.in-Err.ensures.err.0 c.in-Err.ensures.err.1 _ _ _ _ c.from.ensures

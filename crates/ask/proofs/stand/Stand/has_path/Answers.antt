@@ -6,4 +6,4 @@ use Rattle.ask.proofs.stand.Stand.has_path.Goals as goal
 
 pub returns : goal.returns
 returns c = let o = c.args.self.now in
-    reach-says _ _ _ o.at.sheet.formed o.at.seat (side c.args.asks) o.question o.places.person o.places.folio o.placed c.measured-d.result (walked-back c.walker.result _ _ c.walker.ensures _ _ c.measured-d.ensures.1) _ refl
+    reach-says _ _ _ o.at.sheet.formed o.at.seat (side c.args.asks) o.question o.places.person o.places.folio o.placed c.measure.new.d (walked-back c.walker.result _ _ c.walker.ensures _ _ c.measure.ensures.1) _ refl

@@ -9,7 +9,7 @@ sheet_words-words-requires c = let M = c.measure-m.ensures in (omega (arith, M.n
 
 pub returns-then-out-words : goal.returns-then-out-words
 returns-then-out-words c = let M = c.measure-m.ensures in
-    put-short c.args.self.now _ _ _ M (omega (arith, M.node-rows.count)) (omega (arith, M.edge-rows)) (omega (arith, c.sheet_words-words.ensures))
+    put-short c.args.self.now _ _ _ _ M (omega (arith, M.node-rows.count)) (omega (arith, M.edge-rows)) (omega (arith, c.sheet_words-words.ensures))
 
 pub lay-requires : goal.lay-requires
 lay-requires c = let M = c.measure-m.ensures in (M, omega (arith, M.node-rows.count), omega (arith, M.edge-rows), omega (arith, c.sheet_words-words.ensures, c.if-out-words.false))

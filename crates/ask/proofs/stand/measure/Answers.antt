@@ -1,8 +1,8 @@
--- `ask::stand::measured` meets its contract: a walk back from one row.
+-- `ask::stand::measure` meets its contract: a walk back from one row.
 use mathlib.Core.Path.{◌∙◌}
 use Rattle.walk.proofs.Starting.{target-layers}
-use Rattle.ask.proofs.stand.measured.Goals as goal
+use Rattle.ask.proofs.stand.measure.Goals as goal
 
 pub returns : goal.returns
-returns c = let T = c.target-d.ensures in
+returns c = let T = c.requires in
     (c.layers.auto.d ∙ T.long, rw c.reversed.ensures at (target-layers _ _ _ _ T c.layers.ensures))

@@ -4,12 +4,12 @@ use Rattle.sheet.specs.Kinds.{person_type}
 use Rattle.sheet.specs.Rows.{node_at}
 use lib.ListN.{length-set}
 use native.Mathlib.Omega.{arith}
-use mathlib.Core.Path.{◌≡◌, refl, ◌∙◌}
+use mathlib.Core.Path.{◌≡◌, ◌∙◌}
 use Prim.Native.Nat.{ℕ}
-use Rattle.lists.proofs.persons_reaching.Goals as goal
+use Rattle.lists.proofs.note_reaching.Goals as goal
 
 pub loop-from-init : goal.loop-from-init
-loop-from-init c = (refl, λ j l. absurd (omega arith))
+loop-from-init c = (c.requires.1, λ j l. absurd (omega arith))
 
 pub loop-from-preserved : goal.loop-from-preserved
 loop-from-preserved c =
